@@ -1,0 +1,12 @@
+pub mod Building
+pub mod Steps
+pub mod Counts
+pub mod Found
+pub mod Overwriting
+pub mod Reporting
+pub mod Sizes
+pub mod Digits
+pub mod Written
+pub mod Exact
+pub mod Kept
+pub mod Laws

@@ -1,0 +1,14 @@
+pub mod Faults
+pub mod Configs
+pub mod Ranges
+pub mod Requests
+pub mod Counting
+pub mod Bytes
+pub mod Kinds
+pub mod Statements
+pub mod Reading
+pub mod Messages
+pub mod Writing
+pub mod Buffers
+pub mod Laws
+pub mod Bodies
