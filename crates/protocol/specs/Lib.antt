@@ -1,0 +1,15 @@
+pub mod Faults
+pub mod States
+pub mod Votes
+pub mod Numbers
+pub mod Replay
+pub mod Facts
+pub mod Rules
+pub mod Certificates
+pub mod Selecting
+pub mod Steps
+pub mod Verdicts
+pub mod Runs
+pub mod Receipts
+pub mod Agreement
+pub mod Examples
