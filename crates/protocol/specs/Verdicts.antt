@@ -1,14 +1,13 @@
 -- What a verdict leaves: the answer, the state, the machine, what is sealed, and the lent buffer.
-use mathlib.Core.Bool.{Bool, false, not, _&&_, _||_}
+use mathlib.Core.Bool.{Bool, false}
 use mathlib.Core.List.{List, _++_}
 use Prim.Native.Nat.{ℕ}
-use lib.Dec.{eqb}
 use lib.ListN.{length, drop}
 use Rattle.std.specs.declared.option.Option.{Option}
 use Rattle.std.specs.declared.option.Option.the-variants.{Some, None}
 use Rattle.std.specs.declared.result.Result.{Result}
 use Rattle.std.specs.declared.result.Result.the-variants.{Ok, Err}
-use Rattle.std.specs.shelf.Text.{sameBytes}
+pub use Rattle.seals.specs.Registers.{added, adds}
 use Rattle.protocol.specs.declared.fault.ReplicaFault.{ReplicaFault}
 use Rattle.protocol.specs.declared.state.State.{State}
 use Rattle.protocol.specs.Certificates.{message}
@@ -43,14 +42,6 @@ abbrev pub message-of : (h : ℕ) → Verdict → Option (List ℕ)
 message-of h (refused fault) = None
 message-of h (accepted s effect None answer) = None
 message-of h (accepted s effect (Some statement) answer) = Some (message h statement)
-
--- the pairs that are sealed, once this one is
-abbrev pub added : (ℕ → List ℕ → Bool) → ℕ → List ℕ → ℕ → List ℕ → Bool
-added sealed replica bytes r bs = sealed r bs || (eqb replica r && sameBytes bytes bs)
-
--- whether sealing adds a new pair
-abbrev pub adds : (ℕ → List ℕ → Bool) → (ℕ → Bool) → ℕ → List ℕ → Bool
-adds sealed fits replica bytes = not (sealed replica bytes) && fits (length bytes)
 
 abbrev pub sealed-with : (ℕ → List ℕ → Bool) → (h : ℕ) → Option (List ℕ) → ℕ → List ℕ → Bool
 sealed-with sealed h None = sealed
