@@ -11,10 +11,11 @@ use Rattle.wire.specs.declared.entry.LogEntry.{LogEntry}
 use Rattle.wire.specs.declared.request.Request.{Request}
 use Rattle.wire.specs.Configs.{faults, replicas}
 use Rattle.wire.specs.Counting.{count}
-use Rattle.wire.specs.Statements.{Statement, reply}
+use Rattle.wire.specs.Statements.{Statement}
 use Rattle.groups.specs.Groups.{member}
 use Rattle.protocol.specs.Numbers.{at-number}
 use Rattle.protocol.specs.Replay.{RequestMachine, outcome-of}
+use Rattle.protocol.specs.Replies.{Alike-replies}
 
 pub record Facts (machine : RequestMachine) : Type 1 where
   -- a replica is Byzantine; else it is honest
@@ -49,7 +50,7 @@ module _ (config : ClusterConfig) (machine : RequestMachine) (facts : Facts mach
 
   -- a receipt: replies alike from a view's whole group
   abbrev pub Receipt : (view number : ℕ) → Request → (outcome : ℕ) → Type 0
-  Receipt view number request outcome = From-group view (λ _. reply view number request outcome)
+  Receipt = Alike-replies config (facts .Known)
 
   -- a witness of a view: an honest replica of its group that closed in it while it held the reports of t + 1 honest replicas
   pub record Witness (view : ℕ) : Type 0 where

@@ -3,6 +3,7 @@ pub mod States
 pub mod Votes
 pub mod Numbers
 pub mod Replay
+pub mod Replies
 pub mod Facts
 pub mod Rules
 pub mod Certificates
