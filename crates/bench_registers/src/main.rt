@@ -1,4 +1,6 @@
 // A benchmark of look-ups in both registers, as they grow. `--run` runs it; without that it does nothing.
+#![tactic(auto)]
+
 use anyhow::anyhow;
 use seals::index::IndexedJournal;
 use seals::journal::Journal;

@@ -1,4 +1,6 @@
 // The groups of replicas that serve the views, and the laws that hold of them.
+#![tactic(auto)]
+
 pub mod group;
 pub mod laws;
 

@@ -1,4 +1,6 @@
 // Deterministic machines: what replicas run, and two of them.
+#![tactic(auto)]
+
 #[cfg(test)]
 mod example;
 pub mod ledger;

@@ -1,4 +1,6 @@
 // A refusal: what a call answers to input that it does not accept.
+#![tactic(auto)]
+
 ghost use Rattle.std.specs.Prelude.{Some};
 ghost use Rattle.refusals.specs.Printed.{layer_name, printed};
 

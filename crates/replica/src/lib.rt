@@ -1,4 +1,6 @@
 // A replica: the calls by which it takes part in keeping one log.
+#![tactic(auto)]
+
 mod closing;
 mod executing;
 mod masks;

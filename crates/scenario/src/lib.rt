@@ -1,3 +1,5 @@
 // The language of scenarios: the lines of a text, their words, and what a word stands for.
+#![tactic(auto)]
+
 pub mod lines;
 pub mod words;

@@ -1,4 +1,6 @@
 // Registers of seals: who sealed which bytes, kept in given memory.
+#![tactic(auto)]
+
 pub mod fault;
 pub mod fnv;
 pub mod index;

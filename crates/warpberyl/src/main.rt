@@ -1,4 +1,6 @@
 // The program: plays a text line by line.
+#![tactic(auto)]
+
 mod answer;
 mod any_machine;
 mod command;

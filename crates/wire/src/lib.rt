@@ -1,4 +1,6 @@
 // The wire format: every message as bytes, read and written.
+#![tactic(auto)]
+
 pub mod body;
 mod buffer;
 pub mod config;

@@ -1,4 +1,5 @@
 // Examples of the wire format.
+#![tactic(auto)]
 
 #[cfg(test)]
 mod tests {

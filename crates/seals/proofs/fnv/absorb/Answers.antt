@@ -7,7 +7,7 @@ pub loop-byte-preserved : goal.loop-byte-preserved
 loop-byte-preserved c =
     let bytes = c.args.bytes.now in
     let i = c.loop-byte.byte-index in
-    ap (λ hash. absorbed hash (drop (i + 1) bytes)) c.absorb-byte-hash.ensures
+    ap (λ hash. absorbed hash (drop (i + 1) bytes)) c.absorb_byte-hash.ensures
     ∙ sym (at_drop_more (absorbed c.loop-byte.hash) bytes i 0 c.loop-byte-test.true) ∙ c.loop-byte.invariant
 
 pub returns : goal.returns

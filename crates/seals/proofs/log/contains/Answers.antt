@@ -16,11 +16,11 @@ pub loop-entry-preserved : goal.loop-entry-preserved
 loop-entry-preserved c =
     let rest = c.loop-entry.rest.now in
     let p = pair_of c.in-Some.entry in
-    ap (λ bs. among (entries bs) c.args.replica c.args.bytes.now) c.split-at.ensures.back
-    ∙ ap (λ t. t || among (entries (drop (width p) rest)) c.args.replica c.args.bytes.now) c.if-is-pair.ensures
+    ap (λ bs. among (entries bs) c.args.replica c.args.bytes.now) c.split_at.ensures.back
+    ∙ ap (λ t. t || among (entries (drop (width p) rest)) c.args.replica c.args.bytes.now) c.if-is_pair.ensures
     ∙ sym (ap (λ ps. among ps c.args.replica c.args.bytes.now) (entries_some rest p (sym c.in-Some.ensures))) ∙ c.loop-entry.invariant
 
 pub returns : goal.returns
 returns c =
-    sym (ap (λ ps. among ps c.args.replica c.args.bytes.now) (entries_none c.loop-entry.rest.now (sym c.in-default.ensures)))
+    sym (ap (λ ps. among ps c.args.replica c.args.bytes.now) (entries_none c.loop-entry.rest.now (sym c.in_default.ensures)))
     ∙ c.loop-entry.invariant

@@ -15,11 +15,11 @@ pub returns-in-Full : goal.returns-in-Full
 returns-in-Full c =
     let slots = c.args.slots.now.offsets.now in
     let cs = contents (entry_at c.args.log.now) slots in
-    let start = c.fnv1a-pair.result % length slots in
+    let start = c.fnv1a_pair.result % length slots in
     let replica = c.args.replica in
     let bytes = c.args.bytes.now in
-    let p = probed_parts cs replica bytes start (length slots) (length-map slots (content (entry_at c.args.log.now))) (ap (λ h. h % length slots) c.fnv1a-pair.ensures) (mod-lt _ (omega arith)) in
-    c.try-slots-in-Full.ensures ∙ ap (λ n. tried cs (range_with_len 0 n) replica bytes) (sub-zero start)
+    let p = probed_parts cs replica bytes start (length slots) (length-map slots (content (entry_at c.args.log.now))) (ap (λ h. h % length slots) c.fnv1a_pair.ensures) (mod-lt _ (omega arith)) in
+    c.try_slots-in-Full.ensures ∙ ap (λ n. tried cs (range_with_len 0 n) replica bytes) (sub-zero start)
     ∙ ap (λ o. or_else o (tried cs (range_with_len 0 start) replica bytes)) c.in-Full.ensures ∙ sym p
 
 pub returns-in-default : goal.returns-in-default

@@ -9,4 +9,4 @@ pub returns : goal.returns
 returns c =
     let v = be 4 c.args.entry.view in
     let r = request_bytes c.args.entry.request in
-    c.put-request.ensures ∙ ap (over (c.args.at + 4) r) c.put-u32.ensures ∙ over_over c.args.at v r c.args.out.now (omega arith)
+    c.put_request.ensures ∙ ap (over (c.args.at + 4) r) c.put_u32.ensures ∙ over_over c.args.at v r c.args.out.now (omega arith)

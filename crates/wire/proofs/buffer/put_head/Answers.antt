@@ -13,5 +13,5 @@ returns c =
     let rows = c.args.rows ∷ [] in
     let first = c.put.ensures ∙ ap (λ (k : ℕ). over 0 (k ∷ c.args.replica ∷ []) out) c.number.ensures in
     c.put-2.ensures
-    ∙ ap (over 6 rows) (c.put-u32.ensures ∙ ap (over 2 view) first ∙ over_over 0 who view out (omega arith))
+    ∙ ap (over 6 rows) (c.put_u32.ensures ∙ ap (over 2 view) first ∙ over_over 0 who view out (omega arith))
     ∙ over_over 0 (who ++ view) rows out (omega arith)

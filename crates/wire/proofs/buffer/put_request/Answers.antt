@@ -11,6 +11,6 @@ returns c =
     let client = be 2 c.args.request.client in
     let stamp = be 4 c.args.request.stamp in
     let work = be 8 c.args.request.work in
-    c.put-u64.ensures
-    ∙ ap (over (at + 6) work) (c.put-u32.ensures ∙ ap (over (at + 2) stamp) c.put-u16.ensures ∙ over_over at client stamp out (omega arith))
+    c.put_u64.ensures
+    ∙ ap (over (at + 6) work) (c.put_u32.ensures ∙ ap (over (at + 2) stamp) c.put_u16.ensures ∙ over_over at client stamp out (omega arith))
     ∙ over_over at (client ++ stamp) work out (omega arith)

@@ -9,7 +9,7 @@ pub returns : goal.returns
 returns c =
     let n = be 4 c.args.number in
     let l = be 2 (body_length c.args.kind) in
-    c.put-u16.ensures
-    ∙ ap (λ (k : ℕ). over (c.args.at + 4) (be 2 k) c.put-u32.new.out) c.body-length.ensures
-    ∙ ap (over (c.args.at + 4) l) c.put-u32.ensures
+    c.put_u16.ensures
+    ∙ ap (λ (k : ℕ). over (c.args.at + 4) (be 2 k) c.put_u32.new.out) c.body_length.ensures
+    ∙ ap (over (c.args.at + 4) l) c.put_u32.ensures
     ∙ over_over c.args.at n l c.args.out.now (omega arith)

@@ -10,5 +10,5 @@ pub returns : goal.returns
 returns c =
     let p = c.args.parts in
     let place = ap (λ (n : ℕ). checked (entries_read p.view p.rows (7 + 6 * n) p.bodies.now)) (sym c.from.ensures) in
-    let e = entries_are p.view p.rows (7 + 6 * p.rows) p.bodies.now c.requires (place ∙ sym c.check-entries.ensures ∙ c.in-ok-check-entries.was) in
+    let e = entries_are p.view p.rows (7 + 6 * p.rows) p.bodies.now c.requires (place ∙ sym c.check_entries.ensures ∙ c.in_ok-check_entries.was) in
     record { says = sym (ap (λ (r : Result (List LogEntry) ReadFault). stated p.replica (with r (λ es. Ok (report p.view es)))) e); holds = (refl, refl) }

@@ -15,7 +15,7 @@ returns-in-err-check-entry c =
 
 pub loop-row-preserved : goal.loop-row-preserved
 loop-row-preserved c =
-    let cut = part_at 18 _ _ _ _ c.from-offset.ensures c.split-at.ensures.back in
-    let same = ap (λ (k : ℕ). checked (entry_read c.args.view (c.args.place + 18 * k) c.split-at.result.1.now)) (sym c.from-offset.ensures) in
+    let cut = part_at 18 _ _ _ _ c.from-offset.ensures c.split_at.ensures.back in
+    let same = ap (λ (k : ℕ). checked (entry_read c.args.view (c.args.place + 18 * k) c.split_at.result.1.now)) (sym c.from-offset.ensures) in
     go_on 18 (λ row. entry_read c.args.view (c.args.place + 18 * row)) _ _ _ _ c.loop-row-test.true cut c.loop-row.invariant
-    (same ∙ sym c.check-entry.ensures ∙ c.in-ok-check-entry.was)
+    (same ∙ sym c.check_entry.ensures ∙ c.in_ok-check_entry.was)

@@ -12,5 +12,5 @@ returns-in-err-check-row c =
 
 pub loop-row-preserved : goal.loop-row-preserved
 loop-row-preserved c =
-    let cut = part_at 6 _ _ _ _ c.from.ensures c.split-at.ensures.back in
-    go_on 6 (row_read c.args.kind) _ _ _ _ c.loop-row-test.true cut c.loop-row.invariant (ap checked (sym c.check-row.ensures ∙ c.in-ok-check-row.was))
+    let cut = part_at 6 _ _ _ _ c.from.ensures c.split_at.ensures.back in
+    go_on 6 (row_read c.args.kind) _ _ _ _ c.loop-row-test.true cut c.loop-row.invariant (ap checked (sym c.check_row.ensures ∙ c.in_ok-check_row.was))

@@ -12,7 +12,7 @@ loop-row-init c = sym (over_none c.args.offset c.args.out.now)
 pub loop-row-preserved : goal.loop-row-preserved
 loop-row-preserved c =
     let at = c.args.offset + 18 * c.loop-row.row in
-    c.put-entry.ensures
+    c.put_entry.ensures
     ∙ ap (λ (e : LogEntry). over at (entry_bytes e) c.loop-row.out) c.index-entries-row.is
     ∙ ap (over at (entry_bytes (get_or c.args.entries.now c.loop-row.row c.index-entries-row.result))) c.loop-row.invariant
     ∙ entries_more c.args.offset c.loop-row.row c.args.entries.now c.index-entries-row.result c.args.out.now c.loop-row-test.true c.requires

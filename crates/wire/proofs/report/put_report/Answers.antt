@@ -14,9 +14,9 @@ returns c =
     let table = table_bytes rows 1 in
     let bodies = entries_bytes c.args.entries.now in
     let long = table_length rows 1 in
-    let before = c.put-table.ensures ∙ ap (over 7 table) c.put-head.ensures ∙ over_over 0 head table out (omega arith) in
+    let before = c.put_table.ensures ∙ ap (over 7 table) c.put_head.ensures ∙ over_over 0 head table out (omega arith) in
     let at : 7 + 6 * rows ≡ 0 + length (head ++ table) = omega arith in
-    c.put-entries.ensures
+    c.put_entries.ensures
     ∙ ap (over (7 + 6 * rows) bodies) before
     ∙ ap (λ (k : ℕ). over k bodies (over 0 (head ++ table) out)) at
     ∙ over_over 0 (head ++ table) bodies out (omega arith)

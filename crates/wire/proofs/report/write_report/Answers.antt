@@ -11,8 +11,8 @@ returns c =
     let s = report c.args.view c.args.entries.now in
     let whole = length_writing c.args.replica s in
     let long = 7 + 24 * length c.args.entries.now in
-    let filled : c.put-report.new.out ≡ writing c.args.replica s ++ drop long c.args.out.now =
-    c.put-report.ensures ∙ ap (λ (k : ℕ). writing c.args.replica s ++ drop k c.args.out.now) (omega arith) in
+    let filled : c.put_report.new.out ≡ writing c.args.replica s ++ drop long c.args.out.now =
+    c.put_report.ensures ∙ ap (λ (k : ℕ). writing c.args.replica s ++ drop k c.args.out.now) (omega arith) in
     let fits : Fits c.args.config c.args.replica s = search rules in
     record {
       answers = search rules;

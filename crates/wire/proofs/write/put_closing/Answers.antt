@@ -12,6 +12,6 @@ returns c =
     let head = head_bytes Closing c.args.replica c.args.view 1 in
     let row = row_bytes Closing 0 in
     let mask = be 2 c.args.mask in
-    c.put-u16.ensures
-    ∙ ap (over 13 mask) (c.put-row.ensures ∙ ap (over 7 row) c.put-head.ensures ∙ over_over 0 head row out (omega arith))
+    c.put_u16.ensures
+    ∙ ap (over 13 mask) (c.put_row.ensures ∙ ap (over 7 row) c.put_head.ensures ∙ over_over 0 head row out (omega arith))
     ∙ over_over 0 (head ++ row) mask out (omega arith)

@@ -10,4 +10,4 @@ pub returns : goal.returns
 returns c =
     let vote = head_bytes Reply c.args.replica c.args.view 1 ++ (row_bytes Reply c.args.number ++ request_bytes c.args.request) in
     let outcome = be 8 c.args.outcome in
-    c.put-u64.ensures ∙ ap (over 27 outcome) c.put-vote.ensures ∙ over_over 0 vote outcome c.args.out.now (omega arith)
+    c.put_u64.ensures ∙ ap (over 27 outcome) c.put_vote.ensures ∙ over_over 0 vote outcome c.args.out.now (omega arith)

@@ -10,6 +10,6 @@ returns c =
     let head = head_bytes c.args.kind c.args.replica c.args.view 1 in
     let row = row_bytes c.args.kind c.args.number in
     let request = request_bytes c.args.request in
-    c.put-request.ensures
-    ∙ ap (over 13 request) (c.put-row.ensures ∙ ap (over 7 row) c.put-head.ensures ∙ over_over 0 head row out (omega arith))
+    c.put_request.ensures
+    ∙ ap (over 13 request) (c.put_row.ensures ∙ ap (over 7 row) c.put_head.ensures ∙ over_over 0 head row out (omega arith))
     ∙ over_over 0 (head ++ row) request out (omega arith)

@@ -11,5 +11,5 @@ returns c =
     record {
       answers = search rules;
       fills = search rules;
-      reads_back = start_reads c.args.config c.args.replica s 15 (drop 15 c.args.out.now) _ fits refl c.put-closing.ensures;
+      reads_back = start_reads c.args.config c.args.replica s 15 (drop 15 c.args.out.now) _ fits refl c.put_closing.ensures;
     }

@@ -11,5 +11,5 @@ returns c =
     record {
       answers = search rules;
       fills = search rules;
-      reads_back = start_reads c.args.config c.args.replica s 27 (drop 27 c.args.out.now) _ fits refl c.put-vote.ensures;
+      reads_back = start_reads c.args.config c.args.replica s 27 (drop 27 c.args.out.now) _ fits refl c.put_vote.ensures;
     }

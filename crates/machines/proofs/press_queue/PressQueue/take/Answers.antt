@@ -6,5 +6,5 @@ pub returns : goal.returns
 returns c =
     let q = c.args.self.now in
     let done = takes_oldest q.jobs q.waiting (omega arith) (omega arith) in
-    let moved = moves_up q.jobs c.copy-within.new.self (q.waiting - 1) (omega arith) c.copy-within.ensures.after in
+    let moved = moves_up q.jobs c.copy_within.new.self (q.waiting - 1) (omega arith) c.copy_within.ensures.after in
     record { state = moved ∙ ap (λ p. p.0) done; outcome = ap (λ p. p.1) done }

@@ -25,6 +25,6 @@ returns c =
     let entry = entry_at c.new.result in
     let e : c.fill.new.self ≡ replicate n empty_slot = c.fill.ensures.after (λ y k. k) in
     record {
-      nothing-sealed = ap (λ slots. among (pairs_in (contents entry slots))) e ∙ fun_ext (λ r. fun_ext (λ bs. new_held entry n r bs));
+      nothing_sealed = ap (λ slots. among (pairs_in (contents entry slots))) e ∙ fun_ext (λ r. fun_ext (λ bs. new_held entry n r bs));
       room = ap (λ k. slots_fit k (place c.new.result)) c.fill.ensures.len ∙ ap (slots_fit n) c.new.ensures.room;
     }

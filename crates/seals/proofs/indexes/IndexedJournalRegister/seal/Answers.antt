@@ -62,8 +62,8 @@ overflow-sub-self c =
 -- the new pair's entry has an offset that a slot can hold
 offset-below : (c : goal.After-put) → c.unwrap-offset.result < empty_slot
 offset-below c =
-    let e : c.offset-for.result ≡ Some c.unwrap-offset.result = c.offset-for.ensures ∙ sym c.append.ensures.answer ∙ c.unwrap-offset.ensures in
-    ltb-true c.unwrap-offset.result empty_slot (ap holdable (sym e) ∙ sym c.is-holdable.ensures ∙ c.if-not-is-holdable.false)
+    let e : c.offset_for.result ≡ Some c.unwrap-offset.result = c.offset_for.ensures ∙ sym c.append.ensures.answer ∙ c.unwrap-offset.ensures in
+    ltb-true c.unwrap-offset.result empty_slot (ap holdable (sym e) ∙ sym c.is_holdable.ensures ∙ c.if-not-is_holdable.false)
 
 -- the named slot holds the new pair, and the others what they held
 put-content : (c : goal.After-put) → contents (entry_at c.append.new.self) c.put.new.self.offsets.now
@@ -108,7 +108,7 @@ returns c =
     let l : x.empty ≡ vacant (index_contents x) = x.counted in
     let s : 0 < x.empty = omega arith in
     let n : index_sealed x r b ≡ false = sym (x.reached r b) ∙ ap is_known free in
-    let h : holdable (place x.log [] (length b)) ≡ true = ap holdable (sym c.offset-for.ensures) ∙ sym c.is-holdable.ensures ∙ c.if-not-is-holdable.false in
+    let h : holdable (place x.log [] (length b)) ≡ true = ap holdable (sym c.offset_for.ensures) ∙ sym c.is_holdable.ensures ∙ c.if-not-is_holdable.false in
     let t : index_fits x (length b) ≡ true = fits_some x.empty (place x.log) (length b) s h in
     let a = sealing.new_adds (index_sealed x) (index_fits x) r b n t in
     let e : place c.append.new.self ≡ after (place x.log) (r, b) = c.append.ensures.room ∙ cond-true _ _ _ (ap is_some c.unwrap-offset.ensures) in

@@ -11,6 +11,6 @@ invariant-of-result c = (whole_none _ c.new.ensures.nothing-used, tt)
 pub returns : goal.returns
 returns c =
     record {
-      nothing-sealed = ap (λ bs. among (entries bs)) c.new.ensures.nothing-used ∙ ap among (entries_none [] refl);
+      nothing_sealed = ap (λ bs. among (entries bs)) c.new.ensures.nothing_used ∙ ap among (entries_none [] refl);
       room = ap placed_fits c.new.ensures.room;
     }

@@ -30,7 +30,7 @@ returns c =
     let m : EntryLog = record { memory = c.write-2.new.self.memory; used = c.in-Some.offset + 3 + length c.args.bytes.now } in
     let w = place_within _ _ _ c.in-Some.ensures in
     let g : used_bytes m ≡ used_bytes l ++ packed p =
-    packs p (take c.in-Some.offset l.memory.now) c.to-be-bytes.result _ _ c.to-be-bytes.ensures c.write.ensures.front c.write-2.ensures.front
+    packs p (take c.in-Some.offset l.memory.now) c.to_be_bytes.result _ _ c.to_be_bytes.ensures c.write.ensures.front c.write-2.ensures.front
     ∙ ap (λ k. take k l.memory.now ++ packed p) w.behind in
     let u : length (used_bytes l) ≡ l.used = length-take-le l.used l.memory.now (omega arith) in
     record {

@@ -8,10 +8,10 @@ pub returns-then-offset-used : goal.returns-then-offset-used
 unfolding entry_at
 returns-then-offset-used c =
     let used = used_bytes c.args.self.now in
-    let e : length c.in-use-used.result.now ≡ length used = ap length c.in-use-used.ensures in
+    let e : length c.in_use-used.result.now ≡ length used = ap length c.in_use-used.ensures in
     let d : drop c.args.offset used ≡ [] = drop_all c.args.offset used (omega arith) in
     sym (ap first d)
 
 pub returns : goal.returns
 unfolding entry_at
-returns c = c.first-entry.ensures ∙ ap first (c.split-at.ensures.back ∙ ap (drop c.args.offset) c.in-use-used.ensures)
+returns c = c.first_entry.ensures ∙ ap first (c.split_at.ensures.back ∙ ap (drop c.args.offset) c.in_use-used.ensures)

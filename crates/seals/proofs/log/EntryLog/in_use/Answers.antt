@@ -4,5 +4,5 @@ use Rattle.seals.proofs.log.EntryLog.in_use.Goals as goal
 
 pub returns : goal.returns
 returns c =
-    c.split-at.ensures.front ∙ ap (λ n. take n c.args.self.now.memory.now) c.min.ensures
+    c.split_at.ensures.front ∙ ap (λ n. take n c.args.self.now.memory.now) c.min.ensures
     ∙ take_min c.args.self.now.used c.args.self.now.memory.now

@@ -3,4 +3,4 @@ use Rattle.seals.proofs.Placing.{place_new}
 use Rattle.seals.proofs.log.EntryLog.new.Goals as goal
 
 pub returns : goal.returns
-returns c = record { nothing-used = refl; room = place_new _ refl }
+returns c = record { nothing_used = refl; room = place_new _ refl }

@@ -6,11 +6,11 @@ use Rattle.seals.proofs.log.EntryLog.write.Goals as goal
 pub returns : goal.returns
 returns c =
     let bytes = c.args.bytes.now in
-    let put : c.copy-from-slice.new.self ≡ bytes = c.copy-from-slice.ensures.after in
-    let l : length c.copy-from-slice.new.self ≡ length bytes = ap length put in
+    let put : c.copy_from_slice.new.self ≡ bytes = c.copy_from_slice.ensures.after in
+    let l : length c.copy_from_slice.new.self ≡ length bytes = ap length put in
     record {
-      front = take-put_mid c.args.at _ c.args.self.now.memory.now c.copy-from-slice.new.self (c.args.at + length bytes) (omega arith) (omega arith)
+      front = take-put_mid c.args.at _ c.args.self.now.memory.now c.copy_from_slice.new.self (c.args.at + length bytes) (omega arith) (omega arith)
           ∙ ap (λ part. take c.args.at c.args.self.now.memory.now ++ part) put;
-      size = same_len_mid _ _ _ _ c.copy-from-slice.ensures.len;
+      size = same_len_mid _ _ _ _ c.copy_from_slice.ensures.len;
       used = refl;
     }

@@ -8,5 +8,5 @@ returns-then-row-len c = sym (no_entry_past (rows_of c.args.self.now) c.args.row
 
 pub returns : goal.returns
 returns c =
-    ap Some (c.entry-of.ensures ∙ ap entry_in c.split-at.ensures.back)
+    ap Some (c.entry_of.ensures ∙ ap entry_in c.split_at.ensures.back)
     ∙ sym (entry_at (rows_of c.args.self.now) c.args.row c.args.self.now.bodies.now (omega arith))
