@@ -6,10 +6,10 @@ pub returns : goal.returns
 unfolding message
 returns c =
     record {
-      two-close = refl;
-      one-is-too-few = refl;
-      highest-view-wins = λ a b. refl;
-      doubt-moves = refl;
-      no-view-left = refl;
-      first-request = refl;
+      two_close = refl;
+      one_is_too_few = refl;
+      highest_view_wins = λ a b. refl;
+      doubt_moves = refl;
+      no_view_left = refl;
+      first_request = refl;
     }

@@ -6,11 +6,11 @@ use Rattle.replica.proofs.closing.count_held.Goals.{then-is-held, else-is-held}
 
 pub loop-replica-preserved : goal.loop-replica-preserved
 loop-replica-preserved c =
-    elim c.if-is-held.branch [
+    elim c.if-is_held.branch [
       | then-is-held w ↦
-          let e = count_yes c.loop-replica.replica (holds c.args.state.now) (sym c.is-held.ensures ∙ w.if-is-held.true) in
+          let e = count_yes c.loop-replica.replica (holds c.args.state.now) (sym c.is_held.ensures ∙ w.if-is_held.true) in
           (omega (arith, w.held-is, e), omega (arith, w.held-is))
       | else-is-held w ↦
-          let e = count_no c.loop-replica.replica (holds c.args.state.now) (sym c.is-held.ensures ∙ w.if-is-held.false) in
+          let e = count_no c.loop-replica.replica (holds c.args.state.now) (sym c.is_held.ensures ∙ w.if-is_held.false) in
           (omega (arith, w.held-is, e), omega (arith, w.held-is))
     ]

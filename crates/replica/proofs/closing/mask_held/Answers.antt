@@ -15,12 +15,12 @@ pub loop-replica-preserved : goal.loop-replica-preserved
 loop-replica-preserved c =
     let k = c.loop-replica.replica in
     let few : k < 16 = search rules in
-    elim c.if-is-held.branch [
+    elim c.if-is_held.branch [
       | then-is-held w ↦
           w.mask-is ∙ ap (λ (b : ℕ). bit_or c.loop-replica.mask b) (one_shl k 16 few)
           ∙ ap (λ (m : ℕ). bit_or m (2 ^ k)) c.loop-replica.invariant
-          ∙ sym (mask_yes k (holds c.args.state.now) (sym c.is-held.ensures ∙ w.if-is-held.true))
+          ∙ sym (mask_yes k (holds c.args.state.now) (sym c.is_held.ensures ∙ w.if-is_held.true))
       | else-is-held w ↦
           w.mask-is ∙ c.loop-replica.invariant
-          ∙ sym (mask_no k (holds c.args.state.now) (sym c.is-held.ensures ∙ w.if-is-held.false))
+          ∙ sym (mask_no k (holds c.args.state.now) (sym c.is_held.ensures ∙ w.if-is_held.false))
     ]

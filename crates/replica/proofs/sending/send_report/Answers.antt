@@ -6,6 +6,6 @@ pub returns : goal.returns
 returns g c =
     let st = report c.args.view c.args.entries.now in
     record {
-      sealed = sealed_start c.args.config c.args.sender st _ _ _ c.requires.0 c.requires.1.0 c.write-report.ensures.answers c.write-report.ensures.fills _ _ _ _ _ _ c.seal-start.ensures;
-      out = written_whole c.args.config c.args.sender st _ _ _ c.requires.0 c.requires.1.0 c.write-report.ensures.answers c.write-report.ensures.fills;
+      sealed = sealed_start c.args.config c.args.sender st _ _ _ c.requires.0 c.requires.1.0 c.write_report.ensures.answers c.write_report.ensures.fills _ _ _ _ _ _ c.seal_start.ensures;
+      out = written_whole c.args.config c.args.sender st _ _ _ c.requires.0 c.requires.1.0 c.write_report.ensures.answers c.write_report.ensures.fills;
     }

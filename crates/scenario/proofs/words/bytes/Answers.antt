@@ -4,4 +4,4 @@ use Rattle.scenario.proofs.words.bytes.Goals as goal
 
 pub loop-rest-preserved : goal.loop-rest-preserved
 loop-rest-preserved c =
-    one_more c.args.word.now _ c.loop-rest.rest.now _ c.in-Some.byte (search rules) c.in-Some.ensures c.in-ok-push.ensures.items c.loop-rest.invariant
+    one_more c.args.word.now _ c.loop-rest.rest.now _ c.in-Some.byte (search rules) c.in-Some.ensures c.in_ok-push.ensures.items c.loop-rest.invariant

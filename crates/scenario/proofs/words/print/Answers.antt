@@ -4,8 +4,8 @@ use Rattle.scenario.specs.Hex.{printed}
 use Rattle.scenario.proofs.Pairs.{byte_more, reads_back}
 use Rattle.scenario.proofs.words.print.Goals as goal
 
-pub returns-in-default : goal.returns-in-default
-returns-in-default c = record { prints = tt; reads_back = reads_back c.args.bytes.now }
+pub returns-in_default : goal.returns-in_default
+returns-in_default c = record { prints = tt; reads_back = reads_back c.args.bytes.now }
 
 pub loop-b-preserved : goal.loop-b-preserved
 loop-b-preserved c =

@@ -4,6 +4,6 @@ use Rattle.scenario.proofs.words.print_byte.Goals as goal
 
 pub returns : goal.returns
 returns c =
-    two_letters _ _ _ _ _ _ _ c.in-ok-push.ensures.bytes c.in-ok-push-2.ensures.bytes
-    (c.push.ensures.ascii c.printed-digit.ensures.ascii ∙ ap (λ (n : ℕ). n ∷ []) c.printed-digit.ensures.value)
-    (c.push-2.ensures.ascii c.printed-digit-2.ensures.ascii ∙ ap (λ (n : ℕ). n ∷ []) c.printed-digit-2.ensures.value)
+    two_letters _ _ _ _ _ _ _ c.in_ok-push.ensures.bytes c.in_ok-push-2.ensures.bytes
+    (c.push.ensures.ascii c.printed_digit.ensures.ascii ∙ ap (λ (n : ℕ). n ∷ []) c.printed_digit.ensures.value)
+    (c.push-2.ensures.ascii c.printed_digit-2.ensures.ascii ∙ ap (λ (n : ℕ). n ∷ []) c.printed_digit-2.ensures.value)

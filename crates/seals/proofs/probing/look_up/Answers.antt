@@ -22,13 +22,13 @@ returns-in-Full c =
     c.try_slots-in-Full.ensures ∙ ap (λ n. tried cs (range_with_len 0 n) replica bytes) (sub-zero start)
     ∙ ap (λ o. or_else o (tried cs (range_with_len 0 start) replica bytes)) c.in-Full.ensures ∙ sym p
 
-pub returns-in-default : goal.returns-in-default
-returns-in-default c =
+pub returns-in_default : goal.returns-in_default
+returns-in_default c =
     let slots = c.args.slots.now.offsets.now in
     let cs = contents (entry_at c.args.log.now) slots in
-    let start = c.fnv1a-pair.result % length slots in
+    let start = c.fnv1a_pair.result % length slots in
     let replica = c.args.replica in
     let bytes = c.args.bytes.now in
-    let p = probed_parts cs replica bytes start (length slots) (length-map slots (content (entry_at c.args.log.now))) (ap (λ h. h % length slots) c.fnv1a-pair.ensures) (mod-lt _ (omega arith)) in
-    sym (or_else_ended c.try-slots.result (tried cs (range_with_len 0 start) replica bytes) c.in-default.not-Full)
-    ∙ ap (λ o. or_else o (tried cs (range_with_len 0 start) replica bytes)) c.try-slots.ensures ∙ sym p
+    let p = probed_parts cs replica bytes start (length slots) (length-map slots (content (entry_at c.args.log.now))) (ap (λ h. h % length slots) c.fnv1a_pair.ensures) (mod-lt _ (omega arith)) in
+    sym (or_else_ended c.try_slots.result (tried cs (range_with_len 0 start) replica bytes) c.in_default.not-Full)
+    ∙ ap (λ o. or_else o (tried cs (range_with_len 0 start) replica bytes)) c.try_slots.ensures ∙ sym p

@@ -5,10 +5,10 @@ use Rattle.seals.specs.Slots.{contents, tried}
 use Rattle.seals.proofs.Turning.{tells, tried_next}
 use Rattle.seals.proofs.probing.try_slots.Goals as goal
 
-pub returns-in-default : goal.returns-in-default
-returns-in-default c =
+pub returns-in_default : goal.returns-in_default
+returns-in_default c =
     sym (tried_next (entry_at c.args.log.now) c.args.slots.now c.args.replica c.args.bytes.now c.loop-slot.slot c.args.to None
-    c.loop-slot-test.true c.requires c.in-default.ensures)
+    c.loop-slot-test.true c.requires c.in_default.ensures)
     ∙ c.loop-slot.invariant
 
 pub returns-then-same : goal.returns-then-same

@@ -6,12 +6,12 @@ use Rattle.replica.specs.Valid.{Placed, Ordered, Counted, Sized, Peered, Earlier
 use Rattle.replica.proofs.Entering.{entered, ordered_more, counted_more, sized_more}
 use Rattle.replica.proofs.replica.Replica.carry_out.Goals as goal
 
-pub invariant-of-self : goal.invariant-of-self
-invariant-of-self g c =
+pub invariant_of-self : goal.invariant_of-self
+invariant_of-self g c =
     let r = c.args.self.now in
     let s = r.state in
-    let works : working s.phase ≡ true = sym c.is-working.ensures ∙ c.if-not-is-working.false in
+    let works : working s.phase ≡ true = sym c.is_working.ensures ∙ c.if-not-is_working.false in
     let more : s.executed < s.prepared = omega (arith, c.if-self.false) in
     let room : s.executed < last_number = omega (arith, more, r.counted.0) in
-    subst (λ (t : State). Placed t × (Ordered t × (Counted t × (Sized t × (Peered t × (Earlier t × Unit {0})))))) (sym c.enter-next.ensures)
+    subst (λ (t : State). Placed t × (Ordered t × (Counted t × (Sized t × (Peered t × (Earlier t × Unit {0})))))) (sym c.enter_next.ensures)
     (r.placed, (ordered_more s r.ordered more, (counted_more s r.counted room, (sized_more s r.sized, (r.peered, (entered s r.ordered r.sized r.earlier room works, tt))))))

@@ -7,8 +7,8 @@ use Rattle.seals.specs.Indexes.{slots_fit}
 use Rattle.seals.proofs.Reaching.{new_filled, new_held, new_reached, new_vacant}
 use Rattle.seals.proofs.index.IndexedJournal.new.Goals as goal
 
-pub invariant-of-result : goal.invariant-of-result
-invariant-of-result c =
+pub invariant_of-result : goal.invariant_of-result
+invariant_of-result c =
     let n = length c.args.slots.now in
     let entry = entry_at c.new.result in
     let e : replicate n empty_slot ≡ c.fill.new.self = sym (c.fill.ensures.after (λ y k. k)) in (

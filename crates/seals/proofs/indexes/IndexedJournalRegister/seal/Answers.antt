@@ -51,8 +51,8 @@ put-requires c =
     let l : length (index_contents x) ≡ length x.slots.offsets.now = length-map x.slots.offsets.now (content (entry_at x.log)) in
     omega (arith, f.1)
 
-pub overflow-sub-self : goal.overflow-sub-self
-overflow-sub-self c =
+pub overflow_sub-self : goal.overflow_sub-self
+overflow_sub-self c =
     let x = c.args.self.now in
     let f = free_slot (index_contents x) c.args.replica c.args.bytes.now c.in-Free.slot (sym c.in-Free.ensures) in
     let v : 0 < vacant (index_contents x) = vacant_some (index_contents x) c.in-Free.slot f.1 f.0 in
@@ -75,8 +75,8 @@ put-content c =
     ∙ contents_put (entry_at x.log) (entry_at c.append.new.self) c.append.ensures.kept x.slots.offsets.now c.in-Free.slot c.unwrap-offset.result p
     x.readable (offset-below c) (c.append.ensures.written c.unwrap-offset.result c.unwrap-offset.ensures)
 
-pub invariant-of-self-2 : goal.invariant-of-self-2
-invariant-of-self-2 c =
+pub invariant_of-self-2 : goal.invariant_of-self-2
+invariant_of-self-2 c =
     let x = c.args.self.now in
     let r = c.args.replica in
     let b = c.args.bytes.now in

@@ -5,8 +5,8 @@ use Rattle.seals.specs.Journals.{placed_fits}
 use Rattle.seals.proofs.Walking.{whole_none, entries_none}
 use Rattle.seals.proofs.journal.Journal.new.Goals as goal
 
-pub invariant-of-result : goal.invariant-of-result
-invariant-of-result c = (whole_none _ c.new.ensures.nothing-used, tt)
+pub invariant_of-result : goal.invariant_of-result
+invariant_of-result c = (whole_none _ c.new.ensures.nothing_used, tt)
 
 pub returns : goal.returns
 returns c =

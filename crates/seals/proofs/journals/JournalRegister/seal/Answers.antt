@@ -24,8 +24,8 @@ returns-then-contains c =
       succeeds = λ _. refl;
     }
 
-pub invariant-of-self : goal.invariant-of-self
-invariant-of-self c =
+pub invariant_of-self : goal.invariant_of-self
+invariant_of-self c =
     let l = c.args.self.now.log in
     let p : Pair = (c.args.replica, c.args.bytes.now) in
     let w = cond_both (is_some c.append.result) (used_bytes l ++ packed p) (used_bytes l) Whole
@@ -33,13 +33,13 @@ invariant-of-self c =
     (λ _. c.args.self.now.whole) in
     (subst Whole (sym c.append.ensures.packs) w, tt)
 
-pub returns-then-is-none : goal.returns-then-is-none
-returns-then-is-none c =
+pub returns-then-is_none : goal.returns-then-is_none
+returns-then-is_none c =
     let j = c.args.self.now in
     let r = c.args.replica in
     let b = c.args.bytes.now in
-    let n : journal_sealed j r b ≡ false = sym (ap (λ bs. among (entries bs) r b) c.in-use.ensures) ∙ sym c.contains.ensures ∙ c.if-contains.false in
-    let s : is_some c.append.result ≡ false = c.if-is-none.ensures in
+    let n : journal_sealed j r b ≡ false = sym (ap (λ bs. among (entries bs) r b) c.in_use.ensures) ∙ sym c.contains.ensures ∙ c.if-contains.false in
+    let s : is_some c.append.result ≡ false = c.if-is_none.ensures in
     let f : journal_fits j (length b) ≡ false = ap is_some (sym c.append.ensures.answer) ∙ s in
     let a = sealing.full_adds (journal_sealed j) (journal_fits j) r b f in
     let e : place c.append.new.self ≡ place j.log = c.append.ensures.room ∙ cond-false _ _ _ s in

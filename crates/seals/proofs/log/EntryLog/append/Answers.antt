@@ -8,14 +8,14 @@ use Rattle.seals.proofs.Placing.{place_within, place_after}
 use Rattle.seals.proofs.Appending.{packs, reads_new, reads_old}
 use Rattle.seals.proofs.log.EntryLog.append.Goals as goal
 
-pub overflow-add-body : goal.overflow-add-body
-overflow-add-body c = let w = place_within _ _ _ c.in-Some.ensures in omega arith
+pub overflow_add-body : goal.overflow_add-body
+overflow_add-body c = let w = place_within _ _ _ c.in-Some.ensures in omega arith
 
-pub overflow-add-end : goal.overflow-add-end
-overflow-add-end c = let w = place_within _ _ _ c.in-Some.ensures in omega arith
+pub overflow_add-end : goal.overflow_add-end
+overflow_add-end c = let w = place_within _ _ _ c.in-Some.ensures in omega arith
 
-pub overflow-cast-bytes : goal.overflow-cast-bytes
-overflow-cast-bytes c = let w = place_within _ _ _ c.in-Some.ensures in omega arith
+pub overflow_cast-bytes : goal.overflow_cast-bytes
+overflow_cast-bytes c = let w = place_within _ _ _ c.in-Some.ensures in omega arith
 
 pub write-requires : goal.write-requires
 write-requires c = let w = place_within _ _ _ c.in-Some.ensures in omega arith
