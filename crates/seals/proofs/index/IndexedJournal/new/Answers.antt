@@ -11,13 +11,12 @@ pub invariant_of-result : goal.invariant_of-result
 invariant_of-result c =
     let n = length c.args.slots.now in
     let entry = entry_at c.new.result in
-    let e : replicate n empty_slot ≡ c.fill.new.self = sym (c.fill.ensures.after (λ y k. k)) in (
-      ap (filled entry) (sym e) ∙ new_filled entry n,
-      (
-        c.fill.ensures.len ∙ sym (new_vacant entry n) ∙ ap (λ slots. vacant (contents entry slots)) e,
-        (subst (λ (slots : List ℕ). Reached (contents entry slots)) e (new_reached entry n), tt),
-      ),
-    )
+    let e : replicate n empty_slot ≡ c.fill.new.self = sym (c.fill.ensures.after (λ y k. k)) in
+    record {
+      readable = ap (filled entry) (sym e) ∙ new_filled entry n;
+      counted = c.fill.ensures.len ∙ sym (new_vacant entry n) ∙ ap (λ slots. vacant (contents entry slots)) e;
+      reached = subst (λ (slots : List ℕ). Reached (contents entry slots)) e (new_reached entry n);
+    }
 
 pub returns : goal.returns
 returns c =

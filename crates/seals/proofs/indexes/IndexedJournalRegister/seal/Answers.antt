@@ -86,15 +86,14 @@ invariant_of-self-2 c =
     let e = put-content c in
     let v : vacant (set (index_contents x) k (Some (r, b))) + 1 ≡ vacant (index_contents x) = vacant_fill (index_contents x) k (r, b) f.1 f.0 in
     let n : x.empty ≡ vacant (index_contents x) = x.counted in
-    let q : x.empty - 1 ≡ vacant (set (index_contents x) k (Some (r, b))) = omega arith in (
-      ap (filled (entry_at c.append.new.self)) c.put.ensures
+    let q : x.empty - 1 ≡ vacant (set (index_contents x) k (Some (r, b))) = omega arith in
+    record {
+      readable = ap (filled (entry_at c.append.new.self)) c.put.ensures
           ∙ filled_set (entry_at x.log) (entry_at c.append.new.self) c.append.ensures.kept x.slots.offsets.now k c.unwrap-offset.result x.readable
-          (ap is_some (c.append.ensures.written c.unwrap-offset.result c.unwrap-offset.ensures)),
-      (
-        q ∙ ap vacant (sym e),
-        (subst Reached (sym e) (reached_fill (index_contents x) r b k x.reached free), tt),
-      ),
-    )
+          (ap is_some (c.append.ensures.written c.unwrap-offset.result c.unwrap-offset.ensures));
+      counted = q ∙ ap vacant (sym e);
+      reached = subst Reached (sym e) (reached_fill (index_contents x) r b k x.reached free);
+    }
 
 pub returns : goal.returns
 returns c =

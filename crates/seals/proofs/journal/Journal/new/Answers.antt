@@ -6,7 +6,7 @@ use Rattle.seals.proofs.Walking.{whole_none, entries_none}
 use Rattle.seals.proofs.journal.Journal.new.Goals as goal
 
 pub invariant_of-result : goal.invariant_of-result
-invariant_of-result c = (whole_none _ c.new.ensures.nothing_used, tt)
+invariant_of-result c = record { whole = whole_none _ c.new.ensures.nothing_used }
 
 pub returns : goal.returns
 returns c =

@@ -31,7 +31,7 @@ invariant_of-self c =
     let w = cond_both (is_some c.append.result) (used_bytes l ++ packed p) (used_bytes l) Whole
     (λ s. whole_push (used_bytes l) p c.args.self.now.whole (place_short l _ (ap is_some (sym c.append.ensures.answer) ∙ s)))
     (λ _. c.args.self.now.whole) in
-    (subst Whole (sym c.append.ensures.packs) w, tt)
+    record { whole = subst Whole (sym c.append.ensures.packs) w }
 
 pub returns-then-is_none : goal.returns-then-is_none
 returns-then-is_none c =
