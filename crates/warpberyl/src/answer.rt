@@ -26,11 +26,11 @@ pub(crate) fn answer(out: &mut String, machine: &mut AnyMachine, command: &Comma
         Command::Hash { bytes } => answer_hash(out, bytes.as_slice()),
         Command::Machine { kind } => {
             *machine = AnyMachine::new(*kind);
-            writeln!(out, "ok 0")
+            Ok(writeln!(out, "ok 0")?)
         }
         Command::Do { work } => {
             let outcome = machine.apply(*work);
-            writeln!(out, "{outcome}")
+            Ok(writeln!(out, "{outcome}")?)
         }
         _ => Ok(()),
     }
@@ -44,10 +44,10 @@ pub(crate) fn answer_register<R: Register>(
 ) -> fmt::Result {
     match command {
         Command::Seal { replica, bytes } => match register.seal(*replica, bytes.as_slice()) {
-            Ok(()) => writeln!(out, "ok 0"),
+            Ok(()) => Ok(writeln!(out, "ok 0")?),
             Err(fault) => {
                 let refusal = fault.refusal();
-                writeln!(out, "{refusal}")
+                Ok(writeln!(out, "{refusal}")?)
             }
         },
         Command::Sealed { replica, bytes } => answer_yes(
@@ -61,12 +61,12 @@ pub(crate) fn answer_register<R: Register>(
 
 fn answer_yes(out: &mut String, yes: bool) -> fmt::Result {
     let word = if yes { "yes" } else { "no" };
-    writeln!(out, "{word}")
+    Ok(writeln!(out, "{word}")?)
 }
 
 fn answer_hash(out: &mut String, bytes: &[u8]) -> fmt::Result {
     print(out, &fnv1a(bytes).to_be_bytes())?;
-    writeln!(out, "")
+    Ok(writeln!(out, "")?)
 }
 
 // Answers whether a cluster may have the size.
@@ -84,12 +84,12 @@ pub(crate) fn answer_cluster(out: &mut String, size: u8) -> Result<bool, fmt::Er
 }
 
 pub(crate) fn answer_error(out: &mut String, line: u64, reason: Reason) -> fmt::Result {
-    writeln!(out, "error {line}: {reason}")
+    Ok(writeln!(out, "error {line}: {reason}")?)
 }
 
 fn refused(out: &mut String, fault: ReadFault) -> fmt::Result {
     let refusal = fault.refusal();
-    writeln!(out, "{refusal}")
+    Ok(writeln!(out, "{refusal}")?)
 }
 
 fn read_in(size: u8, bytes: &[u8]) -> Result<Message<'_>, ReadFault> {
@@ -115,7 +115,7 @@ fn answer_group(out: &mut String, size: u8, view: u32) -> fmt::Result {
                 let member = *member;
                 write!(out, " {member}")?;
             }
-            writeln!(out, "")
+            Ok(writeln!(out, "")?)
         }
         Err(fault) => refused(out, fault),
     }
@@ -123,7 +123,7 @@ fn answer_group(out: &mut String, size: u8, view: u32) -> fmt::Result {
 
 fn answer_request(out: &mut String, client: u16, stamp: u32, work: u64) -> fmt::Result {
     match Request::new(client, stamp, work) {
-        Ok(_) => writeln!(out, "ok 0"),
+        Ok(_) => Ok(writeln!(out, "ok 0")?),
         Err(fault) => refused(out, fault),
     }
 }
@@ -149,7 +149,7 @@ fn tell(out: &mut String, message: &Message<'_>) -> fmt::Result {
         Message::Closing(closing) => tell_closing(out, closing)?,
         Message::Reply(reply) => tell_reply(out, reply)?,
     }
-    writeln!(out, "")
+    Ok(writeln!(out, "")?)
 }
 
 fn tell_request(out: &mut String, number: u32, request: Request) -> fmt::Result {
@@ -181,11 +181,11 @@ fn tell_report(out: &mut String, report: &Report<'_>) -> fmt::Result {
 
 fn tell_closing(out: &mut String, closing: &Closing<'_>) -> fmt::Result {
     let mask = closing.mask();
-    write!(out, " mask {mask}")
+    Ok(write!(out, " mask {mask}")?)
 }
 
 fn tell_reply(out: &mut String, reply: &Reply<'_>) -> fmt::Result {
     tell_request(out, reply.number(), reply.request())?;
     let outcome = reply.outcome();
-    write!(out, " outcome {outcome}")
+    Ok(write!(out, " outcome {outcome}")?)
 }

@@ -167,7 +167,7 @@ impl<'a> Words<'a> {
 
     fn bytes(&mut self, heap: Global) -> Result<Vec<u8>, Reason> {
         let word = self.next()?;
-        if word == b"-" {
+        if word == b"-".as_slice() {
             return Ok(Vec::new(heap));
         }
         match bytes(heap, word)? {

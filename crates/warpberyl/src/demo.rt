@@ -90,7 +90,7 @@ fn tell_group(out: &mut String, config: ClusterConfig) -> fmt::Result {
         write!(out, "{joint} house {member}")?;
         joint = " and";
     }
-    writeln!(out, ". Its primary is house {primary}.")
+    Ok(writeln!(out, ". Its primary is house {primary}.")?)
 }
 
 fn tell_read(out: &mut String, what: &str, bytes: &[u8]) -> fmt::Result {
@@ -139,10 +139,10 @@ fn tell_seal<R: Register>(
     answer_register(out, register, 0, message)?;
     let known = register.is_sealed(0, message);
     let other = register.is_sealed(1, message);
-    writeln!(
+    Ok(writeln!(
         out,
         "  {name}: sealed by house 0: {known}, by house 1: {other}"
-    )
+    )?)
 }
 
 fn answer_register<R: Register>(
@@ -152,10 +152,10 @@ fn answer_register<R: Register>(
     message: &[u8],
 ) -> fmt::Result {
     match register.seal(replica, message) {
-        Ok(()) => writeln!(out, "ok"),
+        Ok(()) => Ok(writeln!(out, "ok")?),
         Err(fault) => {
             let refusal = fault.refusal();
-            writeln!(out, "{refusal}")
+            Ok(writeln!(out, "{refusal}")?)
         }
     }
 }
@@ -191,7 +191,7 @@ fn tell_registers(out: &mut String, message: [u8; 27]) -> fmt::Result {
 
 fn tell_work<M: Machine>(out: &mut String, machine: &mut M, what: &str, work: u64) -> fmt::Result {
     let outcome = machine.apply(work);
-    writeln!(out, "  {what}: {outcome}")
+    Ok(writeln!(out, "  {what}: {outcome}")?)
 }
 
 // A day at each machine; a refused work answers 2^40 and its reason.

@@ -18,6 +18,7 @@ use seals::journal::Journal;
 use seals::register::Register;
 use std::alloc::Global;
 use std::io::Read;
+use std::process::ExitCode;
 use std::{env, fmt, fs, io};
 
 const HELP: &str = "usage: warpberyl [--keep-going] [FILE]  plays FILE, or the standard input
@@ -232,14 +233,21 @@ fn arguments(rt: &HostRuntime) -> io::Result<Vec<String>> {
     Ok(env::args(rt)?.skip(1).collect(rt.alloc())?)
 }
 
-fn main(rt: HostRuntime) -> Result<(), Failed> {
-    let Ok(words) = arguments(&rt) else {
-        return Err(complain(&rt, "cannot read", "the command line"));
+fn run(rt: &HostRuntime) -> Result<(), Failed> {
+    let Ok(words) = arguments(rt) else {
+        return Err(complain(rt, "cannot read", "the command line"));
     };
     match asked(words.as_slice()) {
-        Ok(Job::Help) => tell(&rt, HELP),
-        Ok(Job::Demo) => tell_demo(&rt),
-        Ok(Job::Play { keep_going, file }) => play_all(&rt, keep_going, file),
-        Err(misuse) => Err(complain(&rt, misuse.why, misuse.word)),
+        Ok(Job::Help) => tell(rt, HELP),
+        Ok(Job::Demo) => tell_demo(rt),
+        Ok(Job::Play { keep_going, file }) => play_all(rt, keep_going, file),
+        Err(misuse) => Err(complain(rt, misuse.why, misuse.word)),
+    }
+}
+
+fn main(rt: HostRuntime) -> ExitCode {
+    match run(&rt) {
+        Ok(()) => ExitCode::SUCCESS,
+        Err(Failed) => ExitCode::FAILURE,
     }
 }

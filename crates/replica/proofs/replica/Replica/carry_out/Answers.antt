@@ -13,5 +13,12 @@ invariant_of-self g c =
     let works : working s.phase ≡ true = sym c.is_working.ensures ∙ c.if-not-is_working.false in
     let more : s.executed < s.prepared = omega (arith, c.if-self.false) in
     let room : s.executed < last_number = omega (arith, more, r.counted.0) in
-    subst (λ (t : State). Placed t × (Ordered t × (Counted t × (Sized t × (Peered t × (Earlier t × Unit {0})))))) (sym c.enter_next.ensures)
-    (r.placed, (ordered_more s r.ordered more, (counted_more s r.counted room, (sized_more s r.sized, (r.peered, (entered s r.ordered r.sized r.earlier room works, tt))))))
+    let e = sym c.enter_next.ensures in
+    record {
+      placed = subst Placed e r.placed;
+      ordered = subst Ordered e (ordered_more s r.ordered more);
+      counted = subst Counted e (counted_more s r.counted room);
+      sized = subst Sized e (sized_more s r.sized);
+      peered = subst Peered e r.peered;
+      earlier = subst Earlier e (entered s r.ordered r.sized r.earlier room works);
+    }
