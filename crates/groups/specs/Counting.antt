@@ -1,5 +1,5 @@
 -- Tests of the numbers below n; a set of replicas is such a test.
-use Rattle.std.specs.Prelude.{ℕ, zero, suc, Bool, true, false, cond, not, ◌&&◌}
+use Rattle.std.specs.Prelude.{ℕ, zero, suc, Bool, true, cond, not, ◌&&◌}
 pub use Rattle.wire.specs.Counting.{count}
 
 -- every number below n passes the test

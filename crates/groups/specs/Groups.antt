@@ -1,5 +1,5 @@
 -- The group of replicas that serves a view, its primary and its followers.
-use Rattle.std.specs.Prelude.{ℕ, ◌%◌, Bool, true, false, not, ◌&&◌, ◌||◌, List, [], ◌∷◌, length, ◌==◌, slice_index, slice_index_or}
+use Rattle.std.specs.Prelude.{ℕ, ◌%◌, Bool, false, not, ◌&&◌, ◌||◌, List, [], ◌∷◌, length, ◌==◌, slice_index, slice_index_or}
 use Rattle.wire.specs.declared.config.ClusterSize.{ClusterSize}
 use Rattle.wire.specs.declared.config.ClusterSize.TheVariants.{Three, Five}
 use Rattle.wire.specs.declared.config.ClusterConfig.{ClusterConfig}

@@ -14,15 +14,15 @@ mod tests {
     #[test]
     fn five_replicas_take_ten_turns(rt: HostRuntime) -> Result<(), Fail> {
         let five = ClusterConfig::new(5)?;
-        assert_eq!(rt; Group::serving(five, 9).members(), &[2, 3, 4]);
-        assert_eq!(rt; Group::of_view(five, 10)?.members(), &[0, 1, 2]);
+        assert_eq!(rt; Group::serving(five, 9).members(), [2u8, 3, 4].as_slice());
+        assert_eq!(rt; Group::of_view(five, 10)?.members(), [0u8, 1, 2].as_slice());
         Ok(())
     }
 
     #[test]
     fn the_lowest_of_three_replicas_leads(rt: HostRuntime) -> Result<(), Fail> {
         let group = Group::of_view(ClusterConfig::new(3)?, 5)?;
-        assert_eq!(rt; group.members(), &[1, 2]);
+        assert_eq!(rt; group.members(), [1u8, 2].as_slice());
         assert_eq!(rt; group.primary(), 1);
         assert!(rt; !group.contains(0) && group.is_follower(2) && !group.is_follower(1));
         Ok(())
@@ -31,7 +31,10 @@ mod tests {
     #[test]
     fn views_end_at_999_999(rt: HostRuntime) -> Result<(), Fail> {
         let three = ClusterConfig::new(3)?;
-        assert_eq!(rt; Group::of_view(three, 999_999)?.members(), &[0, 1]);
+        assert_eq!(rt;
+            Group::of_view(three, 999_999)?.members(),
+            [0u8, 1].as_slice()
+        );
         match Group::of_view(three, 1_000_000) {
             Ok(_) => Err(Fail::new("no such view")),
             Err(fault) => {

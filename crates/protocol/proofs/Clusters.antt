@@ -11,7 +11,7 @@ use Rattle.protocol.specs.Agreement.{Among, facts_of}
 use Rattle.protocol.specs.Facts.{Facts}
 use Rattle.protocol.specs.Receipts.{Made}
 use Rattle.protocol.specs.Replay.{RequestMachine}
-use Rattle.protocol.specs.Runs.{Node, Cluster, call, Deed, called}
+use Rattle.protocol.specs.Runs.{Node, Cluster, call, Deed}
 use Rattle.protocol.specs.Steps.{Act, orders, repeats, hears, carries_out, doubts, reports, closes, opens, Verdict, refused, accepted}
 use Rattle.protocol.specs.Verdicts.{state_after, machine_after, sealed_after}
 use Rattle.protocol.proofs.Grow.{Grows, Adds, InRange, inv_grows}

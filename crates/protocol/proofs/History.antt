@@ -4,7 +4,7 @@ use Rattle.wire.specs.declared.config.ClusterConfig.{ClusterConfig}
 use Rattle.wire.specs.declared.request.Request.{Request}
 use Rattle.wire.specs.Statements.{Statement, reply}
 use Rattle.protocol.specs.declared.state.State.{State}
-use Rattle.protocol.specs.Agreement.{Among, Accepted, Opened, facts_of}
+use Rattle.protocol.specs.Agreement.{Among, Accepted, facts_of}
 use Rattle.protocol.specs.Facts.{Facts}
 use Rattle.protocol.specs.Receipts.{Made}
 use Rattle.protocol.specs.Replay.{RequestMachine}

@@ -18,7 +18,7 @@ use Rattle.protocol.specs.declared.state.State.{State}
 use Rattle.protocol.specs.Facts.{Facts}
 use Rattle.protocol.specs.Replay.{RequestMachine}
 use Rattle.protocol.specs.Rules.{Certified}
-use Rattle.protocol.specs.States.{blank_entry, most_replicas, working, turning, gathering, closed, entries_in, changed_to}
+use Rattle.protocol.specs.States.{blank_entry, most_replicas, working, turning, gathering, entries_in, changed_to}
 use Rattle.protocol.proofs.Parts.{serving, has_closed, Shape, Votes, Prepares, Executes, Logs, Closings, Holds, Opens}
 
 -- ---- phases

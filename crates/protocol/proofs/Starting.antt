@@ -12,15 +12,13 @@ use Rattle.wire.specs.Statements.{Statement}
 use Rattle.groups.specs.Groups.{member}
 use Rattle.protocol.specs.declared.state.HeldReport.{HeldReport}
 use Rattle.protocol.specs.declared.state.Phase.TheVariants.{Working, Aside}
-use Rattle.protocol.specs.declared.state.State.{State}
 use Rattle.protocol.specs.Agreement.{facts_of}
 use Rattle.protocol.specs.Certificates.{message}
 use Rattle.protocol.specs.Facts.{Facts}
 use Rattle.protocol.specs.Replay.{RequestMachine}
 use Rattle.protocol.specs.Rules.{nothing}
-use Rattle.protocol.specs.Runs.{Node, Cluster, new_node, none, New}
+use Rattle.protocol.specs.Runs.{Node, Cluster, new_node, New}
 use Rattle.protocol.specs.States.{blank, blank_entry, most_replicas, new_state}
-use Rattle.protocol.specs.Steps.{reports, closes, opens, accepted}
 use Rattle.protocol.proofs.Lists.{element_at}
 use Rattle.protocol.proofs.Parts.{serving, Inv}
 use Rattle.protocol.proofs.Turning.{none_held, none_noted}

@@ -1,11 +1,9 @@
 -- Which votes certify a request, and what the register knows of them.
-use Rattle.std.specs.Prelude.{ℕ, suc, Bool, true, cond, ◌&&◌, List, [], ◌∷◌, length, Some, None, Option}
+use Rattle.std.specs.Prelude.{ℕ, suc, Bool, true, cond, ◌&&◌, List, [], ◌∷◌, Some, None, Option}
 use Rattle.wire.specs.declared.config.ClusterConfig.{ClusterConfig}
 use Rattle.wire.specs.declared.entry.LogEntry.{LogEntry}
-use Rattle.wire.specs.declared.kind.Kind.TheVariants.{Prepare, Commit, Doubt, Report, Closing, Reply}
 use Rattle.wire.specs.declared.request.Request.{Request}
-use Rattle.wire.specs.Kinds.{message_length}
-use Rattle.wire.specs.Statements.{Statement, prepare, commit, doubt, report, closing, reply}
+use Rattle.wire.specs.Statements.{Statement}
 use Rattle.wire.specs.Writing.{writing}
 pub use Rattle.wire.specs.Writing.{size}
 use Rattle.groups.specs.Groups.{group}

@@ -1,5 +1,5 @@
 -- Where the next entry of a log goes, now and after further ones.
-use Rattle.std.proofs.Common.{◌≡◌, ℕ, ◌+◌, ◌-◌, ◌≤◌, true, false, ◌&&◌, leb, List, [], ◌∷◌, length, is_some, Some, None, sum_by, Option, sym, refl, ap, ◌∙◌, ⊎_elim, add-zero, zero-add, arith}
+use Rattle.std.proofs.Common.{◌≡◌, ℕ, ◌+◌, ◌-◌, ◌≤◌, true, ◌&&◌, leb, List, [], ◌∷◌, length, is_some, Some, None, sum_by, Option, sym, refl, ap, ◌∙◌, ⊎_elim, add-zero, zero-add, arith}
 use mathlib.Core.Path.{fun_ext}
 use Rattle.std.proofs.lemmas.Bool.{false≢true, le-leb, leb-true, and_parts, and_from, cond-true, cond-false, cases_Bool}
 use Rattle.seals.specs.declared.log.EntryLog.{EntryLog}

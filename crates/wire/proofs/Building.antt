@@ -1,5 +1,5 @@
 -- Fields in range make a request, and a request is the one with its fields.
-use Rattle.std.proofs.Common.{◌≡◌, ℕ, Bool, true, false, T, Some, None, Option}
+use Rattle.std.proofs.Common.{◌≡◌, Bool, true, false, T, Some}
 use lib.Dec.{T_prop}
 use Rattle.wire.specs.declared.request.Request.{Request}
 use Rattle.wire.specs.Ranges.{in_range}

@@ -1,21 +1,17 @@
 -- Bytes that read are the writing of what they read as: each field is kept, and nothing else is there.
-use Rattle.std.proofs.Common.{◌≡◌, ℕ, zero, suc, ◌+◌, ◌-◌, ◌*◌, ◌/◌, ◌%◌, ◌^◌, ◌<◌, ◌≤◌, Bool, true, false, cond, ◌&&◌, T, eqb, ltb, leb, List, [], ◌∷◌, ◌++◌, length, get_or, take, drop, Some, None, Ok, Err, Option, Result, sym, refl, ap, ◌∙◌, subst, append-nil, not-suc-le-zero, add-zero, mul-add, arith, length-append, length-drop, take-append-drop, length-take-le, get_or-drop, drop-cons, drop-drop}
+use Rattle.std.proofs.Common.{◌≡◌, ℕ, zero, suc, ◌+◌, ◌≤◌, Bool, true, false, T, eqb, ltb, List, [], ◌∷◌, ◌++◌, length, take, drop, Some, None, Ok, Option, sym, ap, ◌∙◌, arith, length-drop, get_or-drop, drop-drop}
 use Rattle.std.specs.Option.{ok_or}
-use Rattle.std.proofs.lemmas.List.{nil_from_length}
-use Rattle.std.proofs.lemmas.Bool.{leb-true, eqb-true, eq-eqb}
-use Rattle.wire.specs.declared.config.ClusterConfig.{ClusterConfig}
+use Rattle.std.proofs.lemmas.Bool.{eqb-true}
 use Rattle.wire.specs.declared.entry.LogEntry.{LogEntry}
 use Rattle.wire.specs.declared.fault.ReadFault.{ReadFault}
-use Rattle.wire.specs.declared.fault.ReadFault.TheVariants.{Field}
 use Rattle.wire.specs.declared.kind.Kind.{Kind}
-use Rattle.wire.specs.declared.kind.Kind.TheVariants.{Prepare, Commit, Doubt, Report, Closing, Reply}
 use Rattle.wire.specs.declared.request.Request.{Request}
 use Rattle.wire.specs.Bytes.{num, be, Bytes}
-use Rattle.wire.specs.Kinds.{kind_of, kind_number, may_number, body_length}
+use Rattle.wire.specs.Kinds.{may_number, body_length}
 use Rattle.wire.specs.Ranges.{in_range}
-use Rattle.wire.specs.Reading.{check, with, parts_read, row_read, request_read, entry_read}
+use Rattle.wire.specs.Reading.{row_read, request_read, entry_read}
 use Rattle.wire.specs.Requests.{if_valid, request}
-use Rattle.wire.specs.Writing.{head_bytes, row_bytes, request_bytes, table_bytes, entry_bytes, entries_bytes, field, late_entry}
+use Rattle.wire.specs.Writing.{row_bytes, request_bytes, entry_bytes}
 use Rattle.wire.proofs.Digits.{be_num}
 use Rattle.wire.proofs.Found.{err_not_ok, with_ok, check_ok}
 

@@ -1,18 +1,17 @@
 -- Table and bodies that read are those of the statement that they read as.
-use Rattle.std.proofs.Common.{◌≡◌, ℕ, zero, suc, ◌+◌, ◌*◌, ◌^◌, ◌<◌, ◌≤◌, Bool, true, ltb, leb, List, [], ◌∷◌, ◌++◌, length, drop, None, Ok, Result, sym, refl, ap, ◌∙◌, subst, append-nil, arith, length-drop}
+use Rattle.std.proofs.Common.{◌≡◌, ℕ, zero, suc, ◌+◌, ◌*◌, ◌^◌, true, leb, List, [], ◌∷◌, ◌++◌, length, drop, None, Ok, sym, refl, ap, ◌∙◌, subst, arith, length-drop}
 use Rattle.std.proofs.lemmas.List.{nil_from_length, drop_all}
 use Rattle.std.proofs.lemmas.Bool.{eqb-true, lt-ltb}
 use Rattle.wire.specs.declared.config.ClusterConfig.{ClusterConfig}
 use Rattle.wire.specs.declared.entry.LogEntry.{LogEntry}
-use Rattle.wire.specs.declared.fault.ReadFault.{ReadFault}
 use Rattle.wire.specs.declared.kind.Kind.{Kind}
 use Rattle.wire.specs.declared.kind.Kind.TheVariants.{Prepare, Commit, Doubt, Report, Closing, Reply}
 use Rattle.wire.specs.declared.request.Request.{Request}
 use Rattle.wire.specs.Bytes.{num, be, Bytes}
-use Rattle.wire.specs.Kinds.{may_count, may_number, body_length, numbered, last_number}
-use Rattle.wire.specs.Reading.{with, parts_read, row_read, request_read, entry_read, entries_read, may_close, bodies_read}
+use Rattle.wire.specs.Kinds.{may_number, body_length, last_number}
+use Rattle.wire.specs.Reading.{parts_read, row_read, request_read, entry_read, entries_read, may_close, bodies_read}
 use Rattle.wire.specs.Statements.{Statement, prepare, commit, doubt, report, closing, reply, view_of}
-use Rattle.wire.specs.Writing.{head_bytes, row_bytes, request_bytes, table_bytes, entry_bytes, entries_bytes, writing, field, late_entry, misfit_body}
+use Rattle.wire.specs.Writing.{head_bytes, row_bytes, request_bytes, table_bytes, entry_bytes, entries_bytes, writing, late_entry, misfit_body}
 use Rattle.wire.proofs.Digits.{be_num, num_lt}
 use Rattle.wire.proofs.Exact.{bytes_drop, row_is, request_is_in, entry_is_in}
 use Rattle.wire.proofs.Found.{with_ok, check_ok}

@@ -1,17 +1,16 @@
 -- The two laws of the wire format.
-use Rattle.std.proofs.Common.{◌≡◌, ℕ, suc, ◌+◌, ◌*◌, ◌≤◌, Bool, true, eqb, ltb, leb, List, [], ◌∷◌, ◌++◌, length, get_or, take, drop, Some, None, Ok, Err, Option, Result, sym, refl, ap, ◌∙◌, subst, one-mul, mul-add, arith, length-drop, take-append-drop, length-take-le, drop-cons, take_at, rules}
+use Rattle.std.proofs.Common.{◌≡◌, ℕ, ◌*◌, ◌≤◌, true, eqb, ltb, leb, List, ◌∷◌, ◌++◌, length, get_or, take, drop, Some, None, Ok, Option, sym, refl, ap, ◌∙◌, subst, mul-add, arith, length-drop, take-append-drop, length-take-le, drop-cons, take_at, rules}
 use Rattle.std.proofs.lemmas.Bool.{leb-true, eqb-true}
 use Rattle.wire.specs.declared.config.ClusterConfig.{ClusterConfig}
-use Rattle.wire.specs.declared.fault.ReadFault.{ReadFault}
 use Rattle.wire.specs.declared.kind.Kind.{Kind}
 use Rattle.wire.specs.declared.kind.Kind.TheVariants.{Prepare, Commit, Doubt, Report, Closing, Reply}
 use Rattle.wire.specs.Bytes.{num, be, Bytes}
 use Rattle.wire.specs.Configs.{replicas}
-use Rattle.wire.specs.Kinds.{kind_of, kind_number, may_count, body_length, message_length, last_view, last_number}
+use Rattle.wire.specs.Kinds.{kind_of, kind_number, may_count, body_length, message_length, last_view}
 use Rattle.wire.specs.Laws.{Fits, IsWriting, WrittenReads, ReadIsWritten}
-use Rattle.wire.specs.Reading.{with, parts_read, row_read, bodies_read, fields_read, contents_in, bodies_in, kind_read, reading}
-use Rattle.wire.specs.Statements.{Statement, Said, view_of}
-use Rattle.wire.specs.Writing.{head_bytes, writing, field, misfit_body, misfit}
+use Rattle.wire.specs.Reading.{parts_read, row_read, bodies_read, contents_in, bodies_in, kind_read, reading}
+use Rattle.wire.specs.Statements.{Statement, Said}
+use Rattle.wire.specs.Writing.{head_bytes, writing, field}
 use Rattle.wire.proofs.Digits.{be_num}
 use Rattle.wire.proofs.Exact.{bytes_drop, bytes_take}
 use Rattle.wire.proofs.Found.{err_not_ok, with_ok, check_ok}

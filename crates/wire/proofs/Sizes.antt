@@ -1,5 +1,5 @@
 -- A message is as long as its kind and its rows make it.
-use Rattle.std.proofs.Common.{◌≡◌, ℕ, ◌++◌, length, refl, arith, length-append}
+use Rattle.std.proofs.Common.{◌≡◌, ℕ, length, refl, arith, length-append}
 use Rattle.wire.specs.Statements.{Statement, prepare, commit, doubt, report, closing, reply}
 use Rattle.wire.specs.Writing.{table_bytes, entries_bytes, writing, size}
 use Rattle.wire.proofs.Reporting.{table_length, entries_length}

@@ -1,24 +1,23 @@
 -- What is written of a statement whose fields are in range reads back as that statement.
-use Rattle.std.proofs.Common.{◌≡◌, ℕ, zero, suc, ◌+◌, ◌*◌, ◌/◌, ◌%◌, ◌^◌, ◌<◌, ◌≤◌, Bool, true, false, cond, ◌&&◌, T, eqb, ltb, leb, List, [], ◌∷◌, ◌++◌, length, Some, None, Ok, Err, Option, Result, refl, ap, ◌∙◌, mul-add, arith, ltb→lt, length-append, take_at, drop_at}
+use Rattle.std.proofs.Common.{◌≡◌, ℕ, zero, suc, ◌+◌, ◌*◌, ◌^◌, ◌<◌, ◌≤◌, Bool, true, false, ◌&&◌, T, eqb, ltb, leb, List, [], ◌∷◌, ◌++◌, length, Some, None, Ok, Option, refl, ap, ◌∙◌, mul-add, arith, length-append, take_at, drop_at}
 use Rattle.std.specs.Option.{ok_or}
 use Rattle.std.proofs.lemmas.Bool.{and_parts, le-leb, leb-true, lt-ltb, ltb-true, eq-eqb}
 use Rattle.wire.specs.declared.config.ClusterConfig.{ClusterConfig}
 use Rattle.wire.specs.declared.entry.LogEntry.{LogEntry}
-use Rattle.wire.specs.declared.fault.ReadFault.{ReadFault}
 use Rattle.wire.specs.declared.fault.ReadFault.TheVariants.{Field}
 use Rattle.wire.specs.declared.kind.Kind.{Kind}
 use Rattle.wire.specs.declared.kind.Kind.TheVariants.{Prepare, Commit, Doubt, Report, Closing, Reply}
 use Rattle.wire.specs.declared.request.Request.{Request}
-use Rattle.wire.specs.Bytes.{num, be}
+use Rattle.wire.specs.Bytes.{be}
 use Rattle.wire.specs.declared.config.ClusterSize.{ClusterSize}
 use Rattle.wire.specs.declared.config.ClusterSize.TheVariants.{Three, Five}
 use Rattle.wire.specs.Configs.{faults_of, replicas}
 use Rattle.wire.specs.Kinds.{kind_of, kind_number, may_count, may_number, body_length, message_length, numbered, last_view, last_number}
 use Rattle.wire.specs.Laws.{WrittenReads}
-use Rattle.wire.specs.Reading.{check, with, may_close, parts_read, row_read, request_read, entry_read, bodies_read, fields_read, stated, contents_in, bodies_in, kind_read, reading}
+use Rattle.wire.specs.Reading.{check, with, may_close, parts_read, row_read, request_read, entry_read, bodies_read, fields_read, stated, kind_read, reading}
 use Rattle.wire.specs.Requests.{request}
-use Rattle.wire.specs.Statements.{Statement, Said, prepare, commit, doubt, report, closing, reply}
-use Rattle.wire.specs.Writing.{head_bytes, row_bytes, request_bytes, table_bytes, entry_bytes, entries_bytes, writing, field, late_entry, misfit}
+use Rattle.wire.specs.Statements.{Statement, prepare, commit, doubt, report, closing, reply}
+use Rattle.wire.specs.Writing.{head_bytes, row_bytes, request_bytes, table_bytes, entry_bytes, entries_bytes, field, late_entry}
 use Rattle.wire.proofs.Building.{request_is}
 use Rattle.wire.proofs.Digits.{num_be}
 use Rattle.wire.proofs.Reporting.{table_length, entries_length}

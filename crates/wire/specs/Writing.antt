@@ -1,5 +1,5 @@
 -- Writing a message.
-use Rattle.std.specs.Prelude.{ℕ, zero, suc, ◌+◌, ◌*◌, ◌^◌, Bool, true, false, cond, List, [], ◌∷◌, ◌++◌, length, drop, Some, None, Ok, Err, Option, Result, nat_le, nat_lt}
+use Rattle.std.specs.Prelude.{ℕ, zero, suc, ◌+◌, ◌*◌, ◌^◌, Bool, cond, List, [], ◌∷◌, ◌++◌, length, drop, Some, None, Ok, Err, Option, Result, nat_le, nat_lt}
 use Rattle.wire.specs.declared.config.ClusterConfig.{ClusterConfig}
 use Rattle.wire.specs.declared.entry.LogEntry.{LogEntry}
 use Rattle.wire.specs.declared.fault.ReadFault.{ReadFault}

@@ -58,8 +58,8 @@ mod tests {
         let request = Request::new(1, 1, 0x0105_0000_0000_0028)?;
         let mut out = [9u8; 30];
         assert_eq!(rt; write_prepare(three, 0, 0, 1, request, &mut out)?, Some(27));
-        assert_eq!(rt; &out[0..27], &PREPARE);
-        assert_eq!(rt; &out[27..30], &[9, 9, 9]);
+        assert_eq!(rt; &out[0..27], PREPARE.as_slice());
+        assert_eq!(rt; &out[27..30], [9u8, 9, 9].as_slice());
         Ok(())
     }
 

@@ -1,7 +1,7 @@
-use Rattle.std.proofs.Common.{◌≡◌, ℕ, ◌<◌, List, length, Some, None, sym, ap, ◌∙◌, arith}
+use Rattle.std.proofs.Common.{ℕ, ◌<◌, List, length, Some, None, sym, ap, ◌∙◌, arith}
 use Rattle.std.proofs.lemmas.List.{at_drop_all}
 use Rattle.std.proofs.lemmas.Bool.{cond-true, le-leb, eqb-false}
-use Rattle.scenario.specs.Numbers.{continued, numeral, up_to}
+use Rattle.scenario.specs.Numbers.{continued, up_to}
 use Rattle.scenario.proofs.Limits.{onward, up_to_le, numeral_some}
 use Rattle.scenario.proofs.words.number.Goals as goal
 

@@ -1,4 +1,4 @@
-use Rattle.std.proofs.Common.{ℕ, List, [], ◌∷◌, ap, ◌∙◌}
+use Rattle.std.proofs.Common.{ℕ, [], ◌∷◌, ap, ◌∙◌}
 use Rattle.scenario.proofs.Pairs.{two_letters}
 use Rattle.scenario.proofs.words.print_byte.Goals as goal
 

@@ -1,6 +1,4 @@
-use Rattle.std.proofs.Common.{length, Result, sym, ap, ◌∙◌, arith}
-use Rattle.wire.specs.declared.fault.ReadFault.{ReadFault}
-use Rattle.wire.specs.declared.message.Message.{Message}
+use Rattle.std.proofs.Common.{length, sym, ap, ◌∙◌, arith}
 use Rattle.wire.specs.Kinds.{message_length}
 use Rattle.wire.specs.Messages.{says, said}
 use Rattle.wire.proofs.Sizes.{length_writing}

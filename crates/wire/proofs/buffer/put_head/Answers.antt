@@ -1,4 +1,4 @@
-use Rattle.std.proofs.Common.{ℕ, List, [], ◌∷◌, ◌++◌, ap, ◌∙◌, arith}
+use Rattle.std.proofs.Common.{ℕ, [], ◌∷◌, ◌++◌, ap, ◌∙◌, arith}
 use Rattle.wire.specs.Buffers.{over}
 use Rattle.wire.specs.Bytes.{be}
 use Rattle.wire.specs.Kinds.{kind_number}

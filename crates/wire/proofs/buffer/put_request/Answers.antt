@@ -1,4 +1,4 @@
-use Rattle.std.proofs.Common.{◌+◌, List, ◌++◌, ap, ◌∙◌, arith}
+use Rattle.std.proofs.Common.{◌+◌, ◌++◌, ap, ◌∙◌, arith}
 use Rattle.wire.specs.Buffers.{over}
 use Rattle.wire.specs.Bytes.{be}
 use Rattle.wire.proofs.Overwriting.{over_over}

@@ -1,6 +1,5 @@
 use Rattle.std.proofs.Common.{◌≡◌, ◌<◌, true, sym, ◌∙◌, subst, arith}
 use Rattle.wire.specs.Kinds.{last_number}
-use Rattle.protocol.specs.declared.state.State.{State}
 use Rattle.protocol.specs.States.{working}
 use Rattle.replica.specs.Valid.{Placed, Ordered, Counted, Sized, Peered, Earlier}
 use Rattle.replica.proofs.Entering.{entered, ordered_more, counted_more, sized_more}
