@@ -29,6 +29,13 @@ def answers():
     return sorted(files)
 
 
+def sources():
+    files = []
+    for crate in CRATES:
+        files += glob.glob(f"crates/{crate}/src/**/*.rt", recursive=True)
+    return sorted(files)
+
+
 def code(line, comment):
     """The line up to its comment."""
     at = line.find(comment)
@@ -59,10 +66,12 @@ def own_names():
         for line in open(f).read().split("\n"):
             line = code(line, "-- ")
             found = DECLARED.match(line)
-            listed = found.group(1).split(", ") if found and "goal." not in line else []
+            listed = found.group(1).split(", ") if found and not re.search(r": goal\.\S+$", line) else []
             for group in BOUND.findall(line):
                 listed += group.split()
             names.update(n for n in listed if re.fullmatch(NAME, n))
+    for f in sources():
+        names.update(re.findall(rf" as ({NAME})[,}}]", open(f).read()))
     return names - outside
 
 
@@ -120,9 +129,9 @@ def main():
         rewrite(f, lambda line: antt(line, False))
     for f in answers():
         rewrite(f, lambda line: antt(line, True))
+    for f in sources():
+        rewrite(f, rust)
     for crate in CRATES:
-        for f in glob.glob(f"crates/{crate}/src/**/*.rt", recursive=True):
-            rewrite(f, rust)
         for f in glob.glob(f"crates/{crate}/must-fail/*.edit"):
             rewrite(f, edit)
     for f in ["README.md"] + glob.glob("docs/*.md"):

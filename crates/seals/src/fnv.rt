@@ -1,20 +1,20 @@
 // FNV-1a, the public hash of 32 bits.
 ghost use Rattle.std.specs.Prelude.{◌≡◌, ◌∷◌};
-ghost use Rattle.seals.specs.Fnv.{fnv1a as hash-of, absorbed, step};
+ghost use Rattle.seals.specs.Fnv.{fnv1a as hash_of, absorbed, step};
 
 const OFFSET_BASIS: u32 = 2166136261;
 
 const PRIME: u32 = 16777619;
 
 pub fn fnv1a(bytes: &[u8]) -> u32
-    ensures { result ≡ hash-of bytes.now }
+    ensures { result ≡ hash_of bytes.now }
 {
     absorb(OFFSET_BASIS, bytes)
 }
 
 // the hash of a sealed pair: of the replica's byte and then the bytes
 pub fn fnv1a_pair(replica: u8, bytes: &[u8]) -> u32
-    ensures { result ≡ hash-of (replica ∷ bytes.now) }
+    ensures { result ≡ hash_of (replica ∷ bytes.now) }
 {
     absorb(absorb_byte(OFFSET_BASIS, replica), bytes)
 }

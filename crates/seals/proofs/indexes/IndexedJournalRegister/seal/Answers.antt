@@ -60,20 +60,20 @@ overflow_sub-self c =
     omega arith
 
 -- the new pair's entry has an offset that a slot can hold
-offset-below : (c : goal.After-put) → c.unwrap-offset.result < empty_slot
-offset-below c =
+offset_below : (c : goal.After-put) → c.unwrap-offset.result < empty_slot
+offset_below c =
     let e : c.offset_for.result ≡ Some c.unwrap-offset.result = c.offset_for.ensures ∙ sym c.append.ensures.answer ∙ c.unwrap-offset.ensures in
     ltb-true c.unwrap-offset.result empty_slot (ap holdable (sym e) ∙ sym c.is_holdable.ensures ∙ c.if-not-is_holdable.false)
 
 -- the named slot holds the new pair, and the others what they held
-put-content : (c : goal.After-put) → contents (entry_at c.append.new.self) c.put.new.self.offsets.now
+put_content : (c : goal.After-put) → contents (entry_at c.append.new.self) c.put.new.self.offsets.now
     ≡ set (index_contents c.args.self.now) c.in-Free.slot (Some (c.args.replica, c.args.bytes.now))
-put-content c =
+put_content c =
     let x = c.args.self.now in
     let p : Pair = (c.args.replica, c.args.bytes.now) in
     ap (contents (entry_at c.append.new.self)) c.put.ensures
     ∙ contents_put (entry_at x.log) (entry_at c.append.new.self) c.append.ensures.kept x.slots.offsets.now c.in-Free.slot c.unwrap-offset.result p
-    x.readable (offset-below c) (c.append.ensures.written c.unwrap-offset.result c.unwrap-offset.ensures)
+    x.readable (offset_below c) (c.append.ensures.written c.unwrap-offset.result c.unwrap-offset.ensures)
 
 pub invariant_of-self-2 : goal.invariant_of-self-2
 invariant_of-self-2 c =
@@ -83,7 +83,7 @@ invariant_of-self-2 c =
     let k = c.in-Free.slot in
     let free = sym c.in-Free.ensures in
     let f = free_slot (index_contents x) r b k free in
-    let e = put-content c in
+    let e = put_content c in
     let v : vacant (set (index_contents x) k (Some (r, b))) + 1 ≡ vacant (index_contents x) = vacant_fill (index_contents x) k (r, b) f.1 f.0 in
     let n : x.empty ≡ vacant (index_contents x) = x.counted in
     let q : x.empty - 1 ≡ vacant (set (index_contents x) k (Some (r, b))) = omega arith in
@@ -114,7 +114,7 @@ returns c =
     let g = fits_after x.empty (r, b) (place x.log) (place c.append.new.self) s e in
     record {
       answer = sym (sealing.fits_answer (index_sealed x) (index_fits x) r b t);
-      pairs = ap (λ cs. among (pairs_in cs)) (put-content (goal.at.returns c).After-put) ∙ fun_ext (λ q. fun_ext (λ bs. fill_held (index_contents x) r b k x.reached free q bs));
+      pairs = ap (λ cs. among (pairs_in cs)) (put_content (goal.at.returns c).After-put) ∙ fun_ext (λ q. fun_ext (λ bs. fill_held (index_contents x) r b k x.reached free q bs));
       room = ap (λ says. says []) g ∙ sym (cond-true _ _ _ a);
       later = g ∙ sym (cond-true _ _ _ a);
       succeeds = λ _. refl;
