@@ -1,6 +1,6 @@
 -- Pairs of hexadecimal digits: one more pair read, and printed bytes read back.
 use Rattle.std.proofs.Common.{◌≡◌, ℕ, suc, ◌+◌, ◌-◌, ◌*◌, ◌/◌, ◌%◌, ◌<◌, ◌≤◌, List, [], ◌∷◌, ◌++◌, length, get_or, take, drop, Some, None, Option, sym, refl, ap, ◌∙◌, append_assoc, arith, rules}
-use Rattle.std.proofs.lemmas.List.{at_drop_more}
+use Rattle.std.proofs.lemmas.List.{at_drop_more, take-append-le}
 use Rattle.std.proofs.lemmas.Slice.{between_to_end}
 use Rattle.std.proofs.lemmas.Bool.{lt-ltb}
 use Rattle.std.specs.Option.{option_map}
@@ -30,6 +30,10 @@ one_more word sofar rest grown b two is more inv =
 -- one letter printed after another
 pub two_letters : (xs ys zs first second : List ℕ) (a b : ℕ) → ys ≡ xs ++ first → zs ≡ ys ++ second → first ≡ a ∷ [] → second ≡ b ∷ [] → zs ≡ xs ++ (a ∷ b ∷ [])
 two_letters xs ys zs first second a b p q e f = cc (append_assoc xs (a ∷ []) (b ∷ []))
+
+-- a text that grows at its end begins as it did
+pub still_begins : (n : ℕ) (text more grown start : List ℕ) → grown ≡ text ++ more → n ≤ length text → take n text ≡ start → take n grown ≡ start
+still_begins n text more grown start is within begins = ap (λ (xs : List ℕ). take n xs) is ∙ take-append-le n text more within ∙ begins
 
 -- a byte's digits are printed, and the rest is left
 pub byte_more : (all out grown bytes : List ℕ) (i : ℕ) → i < length bytes → grown ≡ out ++ digits_of (get_or bytes i 0) → out ++ printed (drop i bytes) ≡ all

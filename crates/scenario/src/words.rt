@@ -1,5 +1,5 @@
 // Words that are numbers or hexadecimal digits.
-ghost use Rattle.std.specs.Prelude.{◌≡◌, ◌<◌, ◌≤◌, ◌++◌, IfSome, IfOk, vec_items, string_bytes, OnOk};
+ghost use Rattle.std.specs.Prelude.{◌≡◌, ◌+◌, ◌*◌, ◌<◌, ◌≤◌, ◌++◌, length, take, IfSome, IfOk, vec_items, string_bytes, string_len, string_capacity, OnOk, IsOk};
 ghost use Rattle.std.specs.Option.{option_map};
 ghost use Rattle.scenario.specs.Hex.{pair, bytes_of, glyph, digits_of, printed, ReadsBack};
 ghost use Rattle.scenario.specs.Numbers.{digit_value, appended, numeral, up_to, work_of};
@@ -129,16 +129,22 @@ fn printed_digit(value: u8) -> char
 }
 
 fn print_byte(out: &mut String, b: u8) -> Result<(), AllocError>
-    ensures { OnOk result (string_bytes out.new ≡ string_bytes out.old ++ digits_of b) }
+    ensures prints { OnOk result (string_bytes out.new ≡ string_bytes out.old ++ digits_of b) }
+    ensures keeps { take (length (string_bytes out.old)) (string_bytes out.new) ≡ string_bytes out.old }
+    ensures len { OnOk result (string_len out.new ≡ string_len out.old + 2) }
+    ensures capacity { string_capacity out.old ≤ string_capacity out.new }
+    ensures succeeds { string_len out.old + 2 ≤ string_capacity out.old → IsOk result }
 {
     out.push(printed_digit(b / HEXADECIMAL))?;
     out.push(printed_digit(b % HEXADECIMAL))?;
     Ok(())
 }
 
-// Prints bytes as hexadecimal digits.
+// Prints bytes as hexadecimal digits. It fails only where the text lacks room, and the text before stays.
 pub fn print(out: &mut String, bytes: &[u8]) -> fmt::Result
     ensures prints { OnOk result (string_bytes out.new ≡ string_bytes out.old ++ printed bytes.now) }
+    ensures keeps { take (length (string_bytes out.old)) (string_bytes out.new) ≡ string_bytes out.old }
+    ensures succeeds { string_len out.old + 2 * length bytes.now ≤ string_capacity out.old → IsOk result }
     ensures reads_back { ReadsBack bytes.now }
 {
     for b in bytes {
