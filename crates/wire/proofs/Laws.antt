@@ -10,7 +10,7 @@ use Rattle.wire.specs.Kinds.{kind_of, kind_number, may_count, body_length, messa
 use Rattle.wire.specs.Laws.{Fits, IsWriting, WrittenReads, ReadIsWritten}
 use Rattle.wire.specs.Reading.{parts_read, row_read, bodies_read, contents_in, bodies_in, kind_read, reading}
 use Rattle.wire.specs.Statements.{Statement, Said}
-use Rattle.wire.specs.Writing.{head_bytes, writing, field}
+use Rattle.wire.specs.Writing.{head_bytes, writing, field, refused_at}
 use Rattle.wire.proofs.Digits.{be_num}
 use Rattle.wire.proofs.Exact.{bytes_drop, bytes_take}
 use Rattle.wire.proofs.Found.{err_not_ok, with_ok, check_ok}
@@ -108,6 +108,11 @@ read_is_written config bs m bytes e = go (kind_of (get_or bs 0 0)) refl a.1
               let same : Ok m ≡ Ok (record { replica = h; statement = s }) = sym e ∙ other in
               cc;
         }
+
+-- what was not refused fits
+pub fits_of : (o : Option ℕ) (u : Unit {0}) → refused_at o ≡ Ok u → o ≡ None
+fits_of None u e = refl
+fits_of (Some offset) u e = absurd (err_not_ok _ u e)
 
 -- what stands at the start of a buffer reads back
 pub start_reads : (config : ClusterConfig) (h : ℕ) (s : Statement) (long : ℕ) (later buffer : List ℕ) → Fits config h s → length (writing h s) ≡ long

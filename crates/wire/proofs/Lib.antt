@@ -2,7 +2,7 @@ pub mod Building
 pub mod Steps
 pub mod Counts
 pub mod Found
-pub mod Overwriting
+pub mod Putting
 pub mod Reporting
 pub mod Sizes
 pub mod Digits

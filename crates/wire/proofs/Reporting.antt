@@ -1,28 +1,20 @@
 -- A report, one row more: the views that were checked, the table and the bodies that were written.
-use Rattle.std.proofs.Common.{◌≡◌, ℕ, zero, suc, ◌+◌, ◌*◌, ◌<◌, ◌≤◌, ltb, List, [], ◌∷◌, ◌++◌, length, get_or, take, drop, Some, None, sym, refl, ap, ◌∙◌, add-zero, add-one, arith, take-append-drop}
-use Rattle.std.proofs.lemmas.List.{drop_more, take_more, drop_all, length-take-le}
-use Rattle.std.proofs.lemmas.Bool.{lt-ltb, le-ltb}
+use Rattle.std.proofs.Common.{◌≡◌, ℕ, zero, suc, ◌+◌, ◌*◌, ◌<◌, ◌≤◌, List, [], ◌∷◌, ◌++◌, length, get_or, take, drop, sym, refl, ap, ◌∙◌, add-zero, add-one, arith, take-append-drop}
+use Rattle.std.proofs.lemmas.List.{take_more, length-take-le}
+use Rattle.std.specs.List.{position_from}
+use Rattle.std.specs.Option.{option_map}
+use Rattle.std.specs.Prelude.{nat_le}
 use Rattle.wire.specs.declared.entry.LogEntry.{LogEntry}
 use Rattle.wire.specs.declared.kind.Kind.TheVariants.{Report}
 use Rattle.wire.specs.Buffers.{over}
-use Rattle.wire.specs.Writing.{row_bytes, table_bytes, entry_bytes, entries_bytes, field, late_entry}
-use Rattle.wire.proofs.Overwriting.{over_over}
+use Rattle.wire.specs.Writing.{row_bytes, table_bytes, entry_bytes, entries_bytes, late_entry}
+use Rattle.wire.proofs.Putting.{over_over}
 
-module _ (view offset row : ℕ) (es : List LogEntry) (d : LogEntry) (within : row < length es) where
-  late_from : late_entry view (offset + 18 * row) (drop row es)
-      ≡ field (ltb (get_or es row d).view view) (offset + 18 * row) (late_entry view (offset + 18 * (row + 1)) (drop (row + 1) es))
-  late_from =
-      ap (late_entry view (offset + 18 * row)) (drop_more es row d within)
-      ∙ ap (λ (k : ℕ). field (ltb (get_or es row d).view view) (offset + 18 * row) (late_entry view k (drop (row + 1) es))) (omega arith)
-
-  pub late_here : view ≤ (get_or es row d).view → late_entry view (offset + 18 * row) (drop row es) ≡ Some (offset + 18 * row)
-  late_here late = late_from ∙ (let e = le-ltb (get_or es row d).view view late in rw e refl)
-
-  pub late_next : (get_or es row d).view < view → late_entry view (offset + 18 * row) (drop row es) ≡ late_entry view (offset + 18 * (row + 1)) (drop (row + 1) es)
-  late_next early = late_from ∙ (let e = lt-ltb (get_or es row d).view view early in rw e refl)
-
-pub late_none : (view offset row : ℕ) (es : List LogEntry) → length es ≤ row → late_entry view offset (drop row es) ≡ None
-late_none view offset row es past = ap (late_entry view offset) (drop_all row es past)
+-- the first late entry stands at the offset of its row
+pub late_from : (view offset i : ℕ) (es : List LogEntry)
+    → late_entry view (offset + 18 * i) es ≡ option_map (λ row. offset + 18 * row) (position_from (λ e. nat_le view e.view) i es)
+late_from view offset i [] = refl
+late_from view offset i (e ∷ es) = let h = late_from view offset (i + 1) es in grind arith
 
 pub over_none : (at : ℕ) (out : List ℕ) → over at [] out ≡ out
 over_none at out = ap (λ (k : ℕ). take at out ++ drop k out) (add-zero at) ∙ take-append-drop at out

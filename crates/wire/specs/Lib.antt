@@ -9,6 +9,7 @@ pub mod Statements
 pub mod Reading
 pub mod Messages
 pub mod Writing
+pub mod Drafts
 pub mod Buffers
 pub mod Laws
 pub mod Bodies

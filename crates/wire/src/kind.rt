@@ -83,7 +83,7 @@ impl Kind {
     }
 
     // How many bytes a message with that many rows has.
-    pub(crate) fn message_length(self, rows: u8) -> usize
+    pub fn message_length(self, rows: u8) -> usize
         ensures { result ≡ message_length self rows }
     {
         7 + usize::from(rows) * (6 + self.body_length())

@@ -4,6 +4,7 @@
 pub mod body;
 mod buffer;
 pub mod config;
+pub mod draft;
 pub mod entry;
 pub mod fault;
 pub mod fields;
@@ -13,9 +14,8 @@ mod mask;
 pub mod message;
 mod numbers;
 mod parts;
+mod ranges;
 pub mod read;
 mod reader;
-pub mod report;
 pub mod request;
 pub mod requests;
-pub mod write;

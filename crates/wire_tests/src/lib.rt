@@ -8,18 +8,26 @@ mod tests {
     use std::test::Fail;
     use wire::body::read_body;
     use wire::config::ClusterConfig;
+    use wire::draft::{Content, Draft};
     use wire::entry::LogEntry;
     use wire::fault::ReadFault;
     use wire::message::Message;
     use wire::read::read;
-    use wire::report::write_report;
     use wire::request::Request;
-    use wire::write::write_prepare;
 
     // PREPARE of replica 0, view 0, number 1: client 1, stamp 1, buying 40 of piece 5
     const PREPARE: [u8; 27] = [
         1, 0, 0, 0, 0, 0, 1, 0, 0, 0, 1, 0, 14, 0, 1, 0, 0, 0, 1, 1, 5, 0, 0, 0, 0, 0, 40,
     ];
+
+    // the PREPARE of replica 0 in view 0 that gives a request number 1
+    fn first(request: Request) -> Draft<'static> {
+        Draft {
+            replica: 0,
+            view: 0,
+            content: Content::Prepare { number: 1, request },
+        }
+    }
 
     fn refused(
         rt: &impl Abort,
@@ -57,7 +65,7 @@ mod tests {
         let three = ClusterConfig::new(3)?;
         let request = Request::new(1, 1, 0x0105_0000_0000_0028)?;
         let mut out = [9u8; 30];
-        assert_eq!(rt; write_prepare(three, 0, 0, 1, request, &mut out)?, Some(27));
+        assert_eq!(rt; first(request).write(three, &mut out)?, Some(27));
         assert_eq!(rt; &out[0..27], PREPARE.as_slice());
         assert_eq!(rt; &out[27..30], [9u8, 9, 9].as_slice());
         Ok(())
@@ -98,7 +106,7 @@ mod tests {
         let three = ClusterConfig::new(3)?;
         let request = Request::new(1, 1, 7)?;
         let mut out = [9u8; 26];
-        assert_eq!(rt; write_prepare(three, 0, 0, 1, request, &mut out)?, None);
+        assert_eq!(rt; first(request).write(three, &mut out)?, None);
         assert_eq!(rt; &out, &[9u8; 26]);
         Ok(())
     }
@@ -112,10 +120,12 @@ mod tests {
             request,
         }; 96];
         let mut out = [0u8; 2311];
-        assert_eq!(rt;
-            write_report(five, 4, 999_999, &entries, &mut out)?,
-            Some(2311)
-        );
+        let draft = Draft {
+            replica: 4,
+            view: 999_999,
+            content: Content::Report { entries: &entries },
+        };
+        assert_eq!(rt; draft.write(five, &mut out)?, Some(2311));
         let Message::Report(report) = read(five, &out)? else {
             return Err(Fail::new("another kind"));
         };

@@ -1,16 +1,13 @@
-use Rattle.std.proofs.Common.{◌+◌, ◌++◌, ap, ◌∙◌, arith}
-use Rattle.wire.specs.Buffers.{over}
+use Rattle.std.proofs.Common.{◌++◌, arith}
 use Rattle.wire.specs.Bytes.{be}
-use Rattle.wire.proofs.Overwriting.{over_over}
+use Rattle.wire.proofs.Putting.{put_number, put_after}
 use Rattle.wire.proofs.buffer.put_request.Goals as goal
 
 pub returns : goal.returns
 returns c =
-    let at = c.args.at in
-    let out = c.args.out.now in
     let client = be 2 c.args.request.client in
     let stamp = be 4 c.args.request.stamp in
     let work = be 8 c.args.request.work in
-    c.put_u64.ensures
-    ∙ ap (over (at + 6) work) (c.put_u32.ensures ∙ ap (over (at + 2) stamp) c.put_u16.ensures ∙ over_over at client stamp out (omega arith))
-    ∙ over_over at (client ++ stamp) work out (omega arith)
+    put_after c.args.at (client ++ stamp) work _ _ _ (omega arith)
+    (put_after c.args.at client stamp _ _ _ (omega arith) (put_number 2 _ _ _ _ _ c.to_be_bytes.ensures c.put.ensures) (put_number 4 _ _ _ _ _ c.to_be_bytes-2.ensures c.put-2.ensures))
+    (put_number 8 _ _ _ _ _ c.to_be_bytes-3.ensures c.put-3.ensures)

@@ -3,7 +3,7 @@ use Rattle.wire.specs.declared.kind.Kind.TheVariants.{Report}
 use Rattle.wire.specs.Buffers.{over}
 use Rattle.wire.specs.Writing.{row_bytes}
 use Rattle.wire.proofs.Reporting.{table_more}
-use Rattle.wire.proofs.report.put_table.Goals as goal
+use Rattle.wire.proofs.buffer.put_table.Goals as goal
 
 pub loop-row-preserved : goal.loop-row-preserved
 loop-row-preserved c =
