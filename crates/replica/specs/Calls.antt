@@ -1,16 +1,16 @@
 -- What a call of a replica leaves: the protocol's step, for the answer and for everything that the call may change.
-use Rattle.std.specs.Prelude.{◌≡◌, ℕ, Bool, cond, List, [], ◌∷◌, length, Some, None, Ok, Err, Option, Result}
+use Rattle.std.specs.Prelude.{◌≡◌, ℕ, List, length, Some, None, Ok, Err, Option, Result}
 use Rattle.wire.specs.declared.config.ClusterConfig.{ClusterConfig}
 use Rattle.wire.specs.declared.fault.ReadFault.{ReadFault}
 use Rattle.wire.specs.Configs.{config_of}
-use Rattle.seals.specs.Registers.{Pair, after}
+use Rattle.seals.specs.Registers.{RegisterState, after_sealing}
 use Rattle.protocol.specs.declared.fault.ReplicaFault.{ReplicaFault}
 use Rattle.protocol.specs.declared.fault.ReplicaFault.TheVariants.{Read}
 use Rattle.protocol.specs.declared.state.State.{State}
 use Rattle.protocol.specs.Replay.{RequestMachine}
 use Rattle.protocol.specs.States.{set_up}
 use Rattle.protocol.specs.Steps.{Act, Verdict, step}
-use Rattle.protocol.specs.Verdicts.{answer_of, state_after, machine_after, message_of, adds, sealed_after, out_after}
+use Rattle.protocol.specs.Verdicts.{answer_of, state_after, machine_after, message_of, sealed_after, out_after}
 use Rattle.replica.specs.declared.replica.Replica.{Replica}
 
 -- setting a replica up in a cluster of so many
@@ -26,49 +26,39 @@ abbrev pub state_in : {M : Type 0} → Result (Replica M) ReplicaFault → Resul
 state_in (Ok r) = Ok r.state
 state_in (Err fault) = Err fault
 
--- what a call meets, and what it leaves: the replica's state and its machine's, the register's meaning, and the lent buffer
+-- what a call meets, and what it leaves: the states of the replica, of its machine and of the register, and the lent buffer
 pub record Scene (Σ : Type 0) : Type 0 where
   pub state : State
   pub machine : Σ
-  pub sealed : ℕ → List ℕ → Bool
-  pub fits : ℕ → Bool
-  pub later : List Pair → ℕ → Bool
+  pub register : RegisterState
   pub out : List ℕ
 
-abbrev pub scene : {M R Σ : Type 0} → (M → Σ) → (R → ℕ → List ℕ → Bool) → (R → ℕ → Bool) → (R → List Pair → ℕ → Bool) → Replica M → R → List ℕ → Scene Σ
-scene state_of sealed fits later replica register out =
+abbrev pub scene : {M R Σ : Type 0} → (M → Σ) → (R → RegisterState) → Replica M → R → List ℕ → Scene Σ
+scene machine_state register_state replica register out =
     record {
       state = replica.state;
-      machine = state_of replica.machine;
-      sealed = sealed register;
-      fits = fits register;
-      later = later register;
+      machine = machine_state replica.machine;
+      register = register_state register;
       out = out;
     }
 
--- what fits once a message was sealed, if one was; only a new pair takes room
-abbrev pub fits_with : (ℕ → List ℕ → Bool) → (ℕ → Bool) → (List Pair → ℕ → Bool) → (h : ℕ) → Option (List ℕ) → ℕ → Bool
-fits_with sealed fits later h None = fits
-fits_with sealed fits later h (Some bytes) = cond (adds sealed fits h bytes) (later ((h, bytes) ∷ [])) fits
-
--- what fits after further pairs, once a message was sealed
-abbrev pub later_with : (ℕ → List ℕ → Bool) → (ℕ → Bool) → (List Pair → ℕ → Bool) → (h : ℕ) → Option (List ℕ) → List Pair → ℕ → Bool
-later_with sealed fits later h None = later
-later_with sealed fits later h (Some bytes) = cond (adds sealed fits h bytes) (after later (h, bytes)) later
+-- the register once a message was sealed, if one was
+abbrev pub register_with : RegisterState → (h : ℕ) → Option (List ℕ) → RegisterState
+register_with register h None = register
+register_with register h (Some bytes) = after_sealing register h bytes
 
 -- an answer and a scene are what a verdict makes of the scene before; a refusal leaves everything
 pub record Leaves (model : RequestMachine) (verdict : Verdict) (given : Result ℕ ReplicaFault) (c d : Scene model.State) : Type 0 where
   pub answer : given ≡ answer_of verdict
   pub state : d.state ≡ state_after c.state verdict
   pub machine : d.machine ≡ machine_after model c.machine verdict
-  pub sealed : d.sealed ≡ sealed_after c.sealed c.state.number verdict
-  pub fits : d.fits ≡ fits_with c.sealed c.fits c.later c.state.number (message_of c.state.number verdict)
-  pub later : d.later ≡ later_with c.sealed c.fits c.later c.state.number (message_of c.state.number verdict)
+  pub register : d.register ≡ register_with c.register c.state.number (message_of c.state.number verdict)
+  pub sealed : d.register.sealed ≡ sealed_after c.register.sealed c.state.number verdict
   pub out : d.out ≡ out_after c.out c.state.number verdict
 
 -- the verdict on a call
 abbrev pub verdict_on : (model : RequestMachine) → Scene model.State → Act → Verdict
-verdict_on model c act = step c.sealed c.fits (length c.out) (λ r. (model.step c.machine r).1) c.state act
+verdict_on model c act = step c.register.sealed c.register.fits (length c.out) (λ r. (model.step c.machine r).1) c.state act
 
 -- a call is the protocol's step
 abbrev pub Does : (model : RequestMachine) → Act → Result ℕ ReplicaFault → (c d : Scene model.State) → Type 0

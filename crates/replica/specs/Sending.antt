@@ -1,12 +1,18 @@
--- What sealing a message at the start of the lent buffer leaves.
-use Rattle.std.specs.Prelude.{◌≡◌, ℕ, Bool, cond, List, [], ◌∷◌, ◌++◌, length, drop}
-use Rattle.seals.specs.Registers.{Pair, added, adds, after}
+-- Room for a message, and what sealing one at the start of the lent buffer leaves.
+use Rattle.std.specs.Prelude.{◌≡◌, ℕ, List, ◌++◌, length, drop, Ok, Err, Result, nat_le, if◌then◌else◌}
+use Rattle.seals.specs.declared.fault.RegisterFault.TheVariants.{Full}
+use Rattle.seals.specs.Registers.{RegisterState, added, after_sealing}
+use Rattle.protocol.specs.declared.fault.ReplicaFault.{ReplicaFault}
+use Rattle.protocol.specs.declared.fault.ReplicaFault.TheVariants.{Register, ShortBuffer}
 
--- replica h sealed the bytes: which pairs are sealed, what fits, and what fits after further pairs
-pub record Sealed (h : ℕ) (bytes : List ℕ) (sealed sealed' : ℕ → List ℕ → Bool) (fits fits' : ℕ → Bool) (later later' : List Pair → ℕ → Bool) : Type 0 where
-  pub pairs : sealed' ≡ added sealed h bytes
-  pub room : fits' ≡ cond (adds sealed fits h bytes) (later ((h, bytes) ∷ [])) fits
-  pub rest : later' ≡ cond (adds sealed fits h bytes) (after later (h, bytes)) later
+-- whether a message of so many bytes has room in a buffer of so many, and in the register
+abbrev pub room_for : ℕ → (space : ℕ) → RegisterState → Result (Unit {0}) ReplicaFault
+room_for n space register = if nat_le n space then (if register.fits n then Ok tt else Err (Register Full)) else Err ShortBuffer
+
+-- replica h sealed the bytes
+pub record Sealed (h : ℕ) (bytes : List ℕ) (register register' : RegisterState) : Type 0 where
+  pub pairs : register'.sealed ≡ added register.sealed h bytes
+  pub all : register' ≡ after_sealing register h bytes
 
 -- the bytes stand at the start of the buffer, the later bytes as they were
 abbrev pub Starts : (bytes out out' : List ℕ) → Type 0
