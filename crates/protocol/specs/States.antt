@@ -130,82 +130,24 @@ noted s h = slice_index_or s.closings h None
 -- the next number is prepared, with these commits heard for it
 abbrev pub with_prepared : State → Request → (commits : ℕ) → State
 with_prepared s r commits =
-    record {
-      config = s.config;
-      number = s.number;
-      view = s.view;
-      phase = s.phase;
-      prepared = s.prepared + 1;
-      executed = s.executed;
-      selected = s.selected;
-      logged = s.logged;
-      requests = slice_set s.requests s.prepared r;
-      selection = s.selection;
-      log = s.log;
-      commits_heard = slice_set s.commits_heard s.prepared commits;
-      reports = s.reports;
-      closings = s.closings;
-    }
+    record s { prepared = s.prepared + 1; requests = slice_set s.requests s.prepared r; commits_heard = slice_set s.commits_heard s.prepared commits }
 
 -- these commits are heard for the number after k
 abbrev pub with_commits : State → (k commits : ℕ) → State
-with_commits s k commits =
-    record {
-      config = s.config;
-      number = s.number;
-      view = s.view;
-      phase = s.phase;
-      prepared = s.prepared;
-      executed = s.executed;
-      selected = s.selected;
-      logged = s.logged;
-      requests = s.requests;
-      selection = s.selection;
-      log = s.log;
-      commits_heard = slice_set s.commits_heard k commits;
-      reports = s.reports;
-      closings = s.closings;
-    }
+with_commits s k commits = record s { commits_heard = slice_set s.commits_heard k commits }
 
 -- the next number is carried out and entered in the log
 abbrev pub with_executed : State → State
 with_executed s =
-    record {
-      config = s.config;
-      number = s.number;
-      view = s.view;
-      phase = s.phase;
-      prepared = s.prepared;
+    record s {
       executed = s.executed + 1;
-      selected = s.selected;
       logged = max s.logged (s.executed + 1);
-      requests = s.requests;
-      selection = s.selection;
       log = slice_set s.log s.executed (record { view = s.view; request = next_request s });
-      commits_heard = s.commits_heard;
-      reports = s.reports;
-      closings = s.closings;
     }
 
 -- another view, phase, reports and closings
 abbrev pub changed_to : State → (view : ℕ) → Phase → List (Option HeldReport) → List (Option ℕ) → State
-changed_to s view phase reports closings =
-    record {
-      config = s.config;
-      number = s.number;
-      view = view;
-      phase = phase;
-      prepared = s.prepared;
-      executed = s.executed;
-      selected = s.selected;
-      logged = s.logged;
-      requests = s.requests;
-      selection = s.selection;
-      log = s.log;
-      commits_heard = s.commits_heard;
-      reports = reports;
-      closings = closings;
-    }
+changed_to s view phase reports closings = record s { view = view; phase = phase; reports = reports; closings = closings }
 
 -- turned to the next view
 abbrev pub turned : State → State
@@ -233,19 +175,11 @@ reported s =
 -- opened with so many requests selected
 abbrev pub with_selection : State → (selected : ℕ) → List Request → State
 with_selection s selected selection =
-    record {
-      config = s.config;
-      number = s.number;
-      view = s.view;
+    record s {
       phase = Working;
       prepared = 0;
       executed = 0;
       selected = selected;
-      logged = s.logged;
-      requests = s.requests;
       selection = selection;
-      log = s.log;
       commits_heard = replicate last_number 0;
-      reports = s.reports;
-      closings = s.closings;
     }
