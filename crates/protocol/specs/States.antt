@@ -1,5 +1,5 @@
 -- The state of a replica: its parts, a new one, and each change that a call makes to one.
-use Rattle.std.specs.Prelude.{ℕ, ◌+◌, ◌-◌, max, Bool, true, false, cond, List, ◌++◌, length, take, replicate, Some, None, Ok, Err, Option, Result, ◌==◌, nat_lt, slice_index, slice_index_or, slice_set}
+use Rattle.std.specs.Prelude.{ℕ, ◌+◌, ◌-◌, max, Bool, true, false, List, ◌++◌, length, take, replicate, Some, None, Ok, Err, Option, Result, ◌==◌, nat_lt, slice_index, slice_index_or, slice_set, if◌then◌else◌}
 use Rattle.wire.specs.declared.config.ClusterConfig.{ClusterConfig}
 use Rattle.wire.specs.declared.entry.LogEntry.{LogEntry}
 use Rattle.wire.specs.declared.fault.ReadFault.TheVariants.{Setting}
@@ -66,7 +66,7 @@ new_state config number =
       config = config;
       number = number;
       view = 0;
-      phase = cond (member config 0 number) Working Aside;
+      phase = if member config 0 number then Working else Aside;
       prepared = 0;
       executed = 0;
       selected = 0;
@@ -81,7 +81,7 @@ new_state config number =
 
 -- setting a replica up: its number is one of the cluster's
 abbrev pub set_up : ClusterConfig → (number : ℕ) → Result State ReplicaFault
-set_up config number = cond (nat_lt number (replicas config)) (Ok (new_state config number)) (Err (Read Setting))
+set_up config number = if nat_lt number (replicas config) then Ok (new_state config number) else Err (Read Setting)
 
 -- ---- parts
 
@@ -168,9 +168,8 @@ with_closing s phase h mask = changed_to s s.view phase s.reports (slice_set s.c
 -- reported: a member holds its own report and gathers, another steps aside
 abbrev pub reported : State → State
 reported s =
-    cond (active s)
-    (with_report s Gathering s.number (record { len = s.logged; entries = s.log }))
-    (changed_to s s.view Aside s.reports s.closings)
+    if active s then with_report s Gathering s.number (record { len = s.logged; entries = s.log })
+    else changed_to s s.view Aside s.reports s.closings
 
 -- opened with so many requests selected
 abbrev pub with_selection : State → (selected : ℕ) → List Request → State
