@@ -57,12 +57,6 @@ module _ (config : ClusterConfig) (machine : RequestMachine) (byzantine : ℕ �
 -- what an accepted call shows
 pub shows : (config : ClusterConfig) (machine : RequestMachine) (byzantine : ℕ → Bool) (ds : List Deed) (deed : Deed) (d : Cluster machine.State)
     (s : State) (act : Act) (answer : ℕ) → IsCall deed s.number act s answer → Shows (facts_of config machine byzantine (ds ++ deed ∷ []) d) s act
-shows config machine byzantine ds deed d s (orders r) answer is = tt
-shows config machine byzantine ds deed d s repeats answer is = tt
-shows config machine byzantine ds deed d s (hears bytes) answer is = tt
-shows config machine byzantine ds deed d s carries_out answer is = tt
-shows config machine byzantine ds deed d s doubts answer is = tt
-shows config machine byzantine ds deed d s reports answer is = tt
 shows config machine byzantine ds deed d s closes answer is =
     record {
       state = s;
@@ -78,6 +72,7 @@ shows config machine byzantine ds deed d s opens answer is =
       accepted = record { room = is.0; done = subst (λ (x : Deed). Among x (ds ++ deed ∷ [])) is.1 (among_new deed ds) };
       in_view = refl;
     }
+shows config machine byzantine ds deed d s act answer is = tt
 
 -- a call leaves number and config as they were
 same_after : (s : State) (verdict : Verdict) → SamePlace s verdict → ((state_after s verdict).number ≡ s.number) × ((state_after s verdict).config ≡ s.config)

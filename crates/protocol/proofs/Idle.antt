@@ -24,39 +24,24 @@ use Rattle.protocol.proofs.Parts.{serving, has_closed, Shape, Votes, Prepares, E
 -- ---- phases
 
 pub turning_idle : (phase : Phase) → T (turning phase) → T (working phase) → ⊥
-turning_idle Working t u = t
-turning_idle Aside t u = t
 turning_idle Turning t u = u
-turning_idle Gathering t u = t
-turning_idle Closed t u = t
+turning_idle phase t u = t
 
 pub gathering_idle : (phase : Phase) → T (gathering phase) → T (working phase) → ⊥
-gathering_idle Working t u = t
-gathering_idle Aside t u = t
-gathering_idle Turning t u = t
 gathering_idle Gathering t u = u
-gathering_idle Closed t u = t
+gathering_idle phase t u = t
 
 pub turning_unclosed : (phase : Phase) → T (turning phase) → T (has_closed phase) → ⊥
-turning_unclosed Working t u = t
-turning_unclosed Aside t u = t
 turning_unclosed Turning t u = u
-turning_unclosed Gathering t u = t
-turning_unclosed Closed t u = t
+turning_unclosed phase t u = t
 
 pub gathering_unclosed : (phase : Phase) → T (gathering phase) → T (has_closed phase) → ⊥
-gathering_unclosed Working t u = t
-gathering_unclosed Aside t u = t
-gathering_unclosed Turning t u = t
 gathering_unclosed Gathering t u = u
-gathering_unclosed Closed t u = t
+gathering_unclosed phase t u = t
 
 pub gathering_serves : (phase : Phase) → T (gathering phase) → T (serving phase)
-gathering_serves Working t = tt
-gathering_serves Aside t = t
-gathering_serves Turning t = t
 gathering_serves Gathering t = tt
-gathering_serves Closed t = tt
+gathering_serves phase t = absurd t
 
 -- ---- parts of a replica that does not work
 

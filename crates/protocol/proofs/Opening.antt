@@ -30,11 +30,8 @@ the_some (Some a) t = (a, refl)
 
 -- the phase in which a replica opens
 pub is_closed : (phase : Phase) → T (closed phase) → phase ≡ Closed
-is_closed Working t = absurd t
-is_closed Aside t = absurd t
-is_closed Turning t = absurd t
-is_closed Gathering t = absurd t
 is_closed Closed t = refl
+is_closed phase t = absurd t
 
 module _ (machine : RequestMachine) (facts : Facts machine) (s : State) (state : machine.State) (inv : Inv machine facts s state)
     (shut : T (closed s.phase)) (noting : T (all_noted s)) (holding : T (holds_all s (named s))) (opened : facts.Opened s.number s.view) where

@@ -42,14 +42,8 @@ pub record Next (Σ : Type 0) : Type 0 where
 
 -- what is heard consists of bytes
 abbrev pub HeardBytes : Act → Type 0
-HeardBytes (orders r) = Unit {0}
-HeardBytes repeats = Unit {0}
 HeardBytes (hears bytes) = Bytes bytes
-HeardBytes carries_out = Unit {0}
-HeardBytes doubts = Unit {0}
-HeardBytes reports = Unit {0}
-HeardBytes closes = Unit {0}
-HeardBytes opens = Unit {0}
+HeardBytes act = Unit {0}
 
 abbrev pub Sayable : Event → Type 0
 Sayable (call at room act) = HeardBytes act

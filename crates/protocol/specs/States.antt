@@ -19,31 +19,19 @@ use Rattle.protocol.specs.declared.state.State.{State}
 
 abbrev pub working : Phase → Bool
 working Working = true
-working Aside = false
-working Turning = false
-working Gathering = false
-working Closed = false
+working phase = false
 
 abbrev pub turning : Phase → Bool
-turning Working = false
-turning Aside = false
 turning Turning = true
-turning Gathering = false
-turning Closed = false
+turning phase = false
 
 abbrev pub gathering : Phase → Bool
-gathering Working = false
-gathering Aside = false
-gathering Turning = false
 gathering Gathering = true
-gathering Closed = false
+gathering phase = false
 
 abbrev pub closed : Phase → Bool
-closed Working = false
-closed Aside = false
-closed Turning = false
-closed Gathering = false
 closed Closed = true
+closed phase = false
 
 -- ---- a new replica
 
