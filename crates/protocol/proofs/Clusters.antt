@@ -2,6 +2,7 @@
 use Rattle.std.proofs.Common.{◌≡◌, ℕ, Bool, not, T, List, [], ◌∷◌, ◌++◌, length, set, Some, Ok, Result, sym, refl, ap, ◌∙◌, subst, ⊎_elim, length-set}
 use Rattle.std.specs.List.{slice_get}
 use Rattle.std.proofs.lemmas.Bool.{cases_eq}
+use Rattle.std.proofs.lemmas.Option.{same_Some}
 use Rattle.wire.specs.declared.config.ClusterConfig.{ClusterConfig}
 use Rattle.wire.specs.Configs.{replicas}
 use Rattle.wire.specs.Statements.{Statement}
@@ -16,7 +17,7 @@ use Rattle.protocol.specs.Steps.{Act, orders, repeats, hears, carries_out, doubt
 use Rattle.protocol.specs.Verdicts.{state_after, machine_after, sealed_after}
 use Rattle.protocol.proofs.Grow.{Grows, Adds, InRange, inv_grows}
 use Rattle.protocol.proofs.History.{Past, Leaves, IsCall, among_new, history_grows, past_more}
-use Rattle.protocol.proofs.Lists.{some_equal, nth_set, nth_set_other}
+use Rattle.protocol.proofs.Lists.{nth_set, nth_set_other}
 use Rattle.protocol.proofs.Parts.{Inv}
 use Rattle.protocol.proofs.Stepping.{SamePlace, Shows}
 use Rattle.protocol.proofs.Saying.{statement_of, sealed_said, sealed_is, said_kept, said_by_others, said_new, said_only}
@@ -169,4 +170,4 @@ module _ (config : ClusterConfig) (machine : RequestMachine) (byzantine : ℕ �
     where
       is_new : (h : ℕ) (node' : Node machine.State) → slice_get d.nodes h ≡ Some node' → h ≡ at
           → node' ≡ record { state = state_after node.state verdict; machine = machine_after machine node.machine verdict }
-      is_new h node' e is = some_equal _ _ (sym e ∙ ap (slice_get d.nodes) is ∙ at_place)
+      is_new h node' e is = same_Some _ _ (sym e ∙ ap (slice_get d.nodes) is ∙ at_place)

@@ -2,6 +2,7 @@
 use Rattle.std.proofs.Common.{◌≡◌, ℕ, suc, ◌<◌, Bool, not, ◌||◌, T, List, get_or, is_some, Some, None, Option, sym, refl, ◌∙◌, not-suc-le-zero, arith}
 use Rattle.std.specs.List.{slice_get}
 use Rattle.std.proofs.lemmas.List.{length-replicate}
+use Rattle.std.proofs.lemmas.Option.{slice_get_within, get_or_from_slice_get}
 use Rattle.wire.specs.declared.entry.LogEntry.{LogEntry}
 use Rattle.wire.specs.declared.request.Request.{Request}
 use Rattle.wire.specs.Kinds.{last_number}
@@ -19,7 +20,6 @@ use Rattle.protocol.specs.States.{blank, blank_entry, closed, held, noted, with_
 use Rattle.protocol.specs.Steps.{Effect, accepted, all_noted, open_step}
 use Rattle.protocol.proofs.Choosing.{counted, counts_held, picks, selects_past, choices_at}
 use Rattle.protocol.proofs.Grow.{Keeps, inv_adds}
-use Rattle.protocol.proofs.Lists.{element_at}
 use Rattle.protocol.proofs.Parts.{Inv}
 use Rattle.protocol.proofs.Tests.{then_passes, every_at, all_at, any_in, needed, as_accepted}
 
@@ -42,7 +42,8 @@ module _ (machine : RequestMachine) (facts : Facts machine) (s : State) (state :
       let counting = counts_held s x t ∙ has in
       let pick = picks s x k es e l counting at in
       let given = (counted s pick.who pick.entries pick.counting).1 in
-      let (within, is) = element_at pick.entries k pick.entry blank_entry pick.there in
+      let within = slice_get_within pick.entries k pick.entry pick.there in
+      let is = get_or_from_slice_get pick.entries k pick.entry blank_entry pick.there in
       let small : k < last_number = omega (arith, inv.holds.short pick.who pick.entries given) in
       let for_r : pick.entry.request ≡ r = pick.requested ∙ sym (choices_at s k small) ∙ sym (select (selects_past s x k es e l counting at)) in
       let (early, sound) = rw is at (inv.holds.certified pick.who pick.entries given k within) in

@@ -14,7 +14,7 @@ use Rattle.protocol.specs.States.{working, gathering, closed, most_replicas, non
 use Rattle.protocol.specs.Steps.{Effect, rest, accepted, doubt_step, hear_doubt}
 use Rattle.protocol.proofs.Tests.{needed, sealing, as_accepted}
 use Rattle.protocol.proofs.Known.{fits_doubt}
-use Rattle.protocol.proofs.Lists.{none_some}
+use Rattle.std.proofs.lemmas.Option.{none-some}
 use Rattle.protocol.proofs.Parts.{Inv}
 use Rattle.protocol.proofs.Grow.{Keeps, inv_adds}
 use Rattle.protocol.proofs.Idle.{changed_shape, prepares_idle, executes_idle, opens_idle}
@@ -25,10 +25,10 @@ none_in (suc n) zero = refl
 none_in (suc n) (suc x) = none_in n x
 
 pub none_noted : (g mask : ℕ) → get_or (none_of_each {A = ℕ}) g None ≡ Some mask → ⊥
-none_noted g mask e = none_some mask (sym (none_in most_replicas g) ∙ e)
+none_noted g mask e = none-some mask (sym (none_in most_replicas g) ∙ e)
 
 pub none_held : (x : ℕ) (es : List LogEntry) → entries_in (get_or (none_of_each {A = HeldReport}) x None) ≡ Some es → ⊥
-none_held x es e = none_some es (sym (ap entries_in (none_in {A = HeldReport} most_replicas x)) ∙ e)
+none_held x es e = none-some es (sym (ap entries_in (none_in {A = HeldReport} most_replicas x)) ∙ e)
 
 module _ (machine : RequestMachine) (facts : Facts machine) (s : State) (state : machine.State) (inv : Inv machine facts s state) where
   turn_keeps : s.view < last_view → Inv machine facts (turned s) state
