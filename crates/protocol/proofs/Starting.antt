@@ -21,7 +21,7 @@ use Rattle.protocol.specs.Runs.{Node, Cluster, new_node, New}
 use Rattle.protocol.specs.States.{blank, blank_entry, most_replicas, new_state}
 use Rattle.std.proofs.lemmas.Option.{slice_get_within, get_or_from_slice_get}
 use Rattle.protocol.proofs.Parts.{serving, Inv}
-use Rattle.protocol.proofs.Turning.{none_held, none_noted}
+use Rattle.protocol.proofs.Idle.{none_held, none_noted}
 use Rattle.protocol.proofs.Clusters.{Kept}
 
 module _ (config : ClusterConfig) (machine : RequestMachine) (byzantine : ℕ → Bool) where

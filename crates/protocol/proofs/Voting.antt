@@ -115,29 +115,16 @@ module _ {machine : RequestMachine} {facts facts' : Facts machine} (s : State) (
 
   voting : Inv machine facts' (with_prepared s r commits) state
   voting =
+      let no_report = no_other is_report (λ v n r t. t) (λ v n r t. t) in
+      let no_reply = no_other is_reply (λ v n r t. t) (λ v n r t. t) in
       record {
-        shape =
-            record {
-              inside = inv.shape.inside;
-              long_requests = length-set s.requests s.prepared r ∙ inv.shape.long_requests;
-              long_log = inv.shape.long_log;
-              long_commits = length-set s.commits_heard s.prepared commits ∙ inv.shape.long_commits;
-              long_reports = inv.shape.long_reports;
-              long_closings = inv.shape.long_closings;
-              few_prepared = omega arith;
-              few_logged = inv.shape.few_logged;
-              executed_logged = inv.shape.executed_logged;
-              low_view = inv.shape.low_view;
-              grouped = inv.shape.grouped;
-            };
+        shape = search (arith, length-set {A = ℕ}, length-set {A = Request}, inv.shape);
         votes = votes;
         prepares = prepares;
         executes = executes_grow s.config adds.grows inv.executes;
-        replies = replies_grow s.config adds.grows (no_other is_reply (λ v n r t. t) (λ v n r t. t)) inv.replies;
+        replies = replies_grow s.config adds.grows no_reply inv.replies;
         logs = logs_grow s.config adds.grows inv.logs;
-        reports =
-            reports_grow s.config adds.grows (no_other is_reply (λ v n r t. t) (λ v n r t. t)) (no_other is_report (λ v n r t. t) (λ v n r t. t))
-            inv.reports;
+        reports = reports_grow s.config adds.grows no_reply no_report inv.reports;
         closings = closings_grow s.config adds.grows (no_other is_closing (λ v n r t. t) (λ v n r t. t)) inv.closings;
         holds = holds_grow s.config adds.grows inv.holds;
         opens = opens_grow s.config adds.grows inv.opens;
