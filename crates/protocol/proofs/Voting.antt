@@ -2,7 +2,8 @@
 use Rattle.std.proofs.Common.{◌≡◌, ℕ, suc, ◌+◌, ◌-◌, ◌^◌, ◌<◌, Bool, not, ◌&&◌, ◌||◌, T, eqb, ltb, leb, ◌⊎◌, List, get_or, set, Some, Option, sym, refl, ap, ◌∙◌, subst, inl, inr, ⊎_elim, add-one, arith, eqb→eq, ltb→lt, leb→le, length-set, get_or-set_other, get_or-set_same}
 use native.Mathlib.Nat.{zero-div}
 use lib.Bits.{bit_or}
-use Rattle.std.proofs.lemmas.Bool.{cases_eq}
+use Rattle.std.proofs.lemmas.Bool.Decides.{nat_tests}
+use Rattle.std.proofs.lemmas.Grind.{elements}
 use Rattle.wire.specs.declared.request.Request.{Request}
 use Rattle.wire.specs.Configs.{replicas}
 use Rattle.wire.specs.Counting.{names}
@@ -22,7 +23,7 @@ use Rattle.protocol.specs.Votes.{vote}
 use Rattle.protocol.proofs.Grow.{Adds, Silent, Keeps, silent, is_report, is_closing, is_reply, chosen_grows, executes_grow, replies_grow, logs_grow, reports_grow, closings_grow, holds_grow, opens_grow, inv_adds}
 use Rattle.protocol.proofs.Known.{vote_primary, vote_follower, of_vote, vote_equal, fits_vote, vote_fits}
 use Rattle.protocol.proofs.Masks.{names_more}
-use Rattle.protocol.proofs.Parts.{Votes, Prepares, Inv}
+use Rattle.protocol.proofs.Parts.{Shape, Votes, Prepares, Inv}
 use Rattle.protocol.proofs.Quorum.{each_passes}
 use Rattle.protocol.proofs.Tests.{needed, sealing, as_accepted, last_or_below, one_passes, same_equal}
 
@@ -31,7 +32,7 @@ names_nothing : (g : ℕ) → T (names 0 g) → ⊥
 names_nothing g t = rw (zero-div (2 ^ g)) at t
 
 names_one : (g x : ℕ) → T (names (2 ^ g) x) → g ≡ x
-names_one g x t = ⊎_elim (λ none. absurd (names_nothing x none)) (eqb→eq g x) (one_passes (names 0 x) (eqb g x) (subst T (names_more 0 g x) t))
+names_one g x t = grind (arith, nat_tests, names_more 0 g x, names_nothing x)
 
 -- ---- the next number is prepared and voted for
 
@@ -43,13 +44,6 @@ module _ {machine : RequestMachine} {facts facts' : Facts machine} (s : State) (
     (heard : (g : ℕ) → g < replicas s.config → T (names commits g) → facts'.Known g (commit s.view (suc s.prepared) r)) where
   abbrev requests : List Request
   requests = set s.requests s.prepared r
-
-  old_at : (k : ℕ) → k < s.prepared → get_or requests k blank ≡ prepared_at s k
-  old_at k l = get_or-set_other s.requests s.prepared k r blank (omega arith)
-
-  new_at : (k : ℕ) → k ≡ s.prepared → get_or requests k blank ≡ r
-  new_at k e =
-      ap (λ (i : ℕ). get_or requests i blank) e ∙ get_or-set_same s.requests s.prepared r blank (let long = inv.shape.long_requests in omega arith)
 
   -- a vote that is known now was known, or is this one
   abbrev Which : (v n : ℕ) → Request → Type 0
@@ -65,22 +59,12 @@ module _ {machine : RequestMachine} {facts facts' : Facts machine} (s : State) (
   votes : Votes s.config machine facts' s.number s.view s.phase (s.prepared + 1) requests
   votes =
       record {
-        none_later = λ v n r' k. ⊎_elim (λ old. inv.votes.none_later v n r' old) (λ new. omega (arith, new.0)) (which v n r' k);
-        in_view = λ n r' k. (works, at_place n r' (which s.view n r' k));
-        one_vote = λ v n r₁ r₂ k₁ k₂. one v n r₁ r₂ (which v n r₁ k₁) (which v n r₂ k₂);
+        none_later = λ v n r' k. grind (arith, which v n r' k, inv.votes.none_later v n r');
+        in_view = λ n r' k. (works, grind (arith, elements, which s.view n r' k, inv.votes.in_view n r', inv.shape.long_requests));
+        one_vote = λ v n r₁ r₂ k₁ k₂. grind (arith, which v n r₁ k₁, which v n r₂ k₂, inv.votes.one_vote v n r₁ r₂, inv.votes.in_view n r₁, inv.votes.in_view n r₂);
         chosen = λ v n r' above k. chosen v n r' above (which v n r' k);
       }
     where
-      at_place : (n : ℕ) (r' : Request) → Which s.view n r' → (k : ℕ) × (n ≡ suc k) × (k < s.prepared + 1) × (get_or requests k blank ≡ r')
-      at_place n r' (inl old) = let (k, numbered, l, is) = (inv.votes.in_view n r' old).1 in (k, numbered, omega arith, old_at k l ∙ is)
-      at_place n r' (inr new) = (s.prepared, new.1, omega arith, new_at s.prepared refl ∙ sym new.2)
-
-      one : (v n : ℕ) (r₁ r₂ : Request) → Which v n r₁ → Which v n r₂ → r₁ ≡ r₂
-      one v n r₁ r₂ (inl old) (inl old') = inv.votes.one_vote v n r₁ r₂ old old'
-      one v n r₁ r₂ (inl old) (inr new) = absurd (not_both n r₁ new.1 (rw new.0 at old))
-      one v n r₁ r₂ (inr new) (inl old) = absurd (not_both n r₂ new.1 (rw new.0 at old))
-      one v n r₁ r₂ (inr new) (inr new') = new.2 ∙ sym new'.2
-
       chosen : (v n : ℕ) (r' : Request) → 0 < v → Which v n r' → Chosen s.config machine facts' s.number v n r'
       chosen v n r' above (inl old) = chosen_grows s.config adds.grows (inv.votes.chosen v n r' above old)
       chosen v n r' above (inr new) =
@@ -89,22 +73,9 @@ module _ {machine : RequestMachine} {facts facts' : Facts machine} (s : State) (
   prepares : Prepares s.config machine facts' s.number s.view s.phase (s.prepared + 1) requests (set s.commits_heard s.prepared commits)
   prepares =
       record {
-        led = λ w k l.
-            ⊎_elim (λ last. rw (new_at k last, last) led) (λ before. rw (old_at k before) (adds.grows.known _ _ (inv.prepares.led w k before)))
-            (last_or_below k s.prepared (omega arith));
-        heard = λ w k g l inside t.
-            ⊎_elim (λ last. rw (new_at k last, last) (heard g inside (subst (λ (m : ℕ). T (names m g)) (new_marks k last) t)))
-            (λ before. rw (old_at k before) (adds.grows.known g _ (inv.prepares.heard w k g before inside (subst (λ (m : ℕ). T (names m g)) (old_marks k before) t))))
-            (last_or_below k s.prepared (omega arith));
+        led = λ w k l. grind (arith, elements, led, adds.grows.known, inv.prepares.led w k, inv.shape.long_requests);
+        heard = λ w k g l inside t. grind (arith, elements, heard g inside, adds.grows.known, inv.prepares.heard w k g, inv.shape.long_requests, inv.shape.long_commits);
       }
-    where
-      new_marks : (k : ℕ) → k ≡ s.prepared → get_or (set s.commits_heard s.prepared commits) k 0 ≡ commits
-      new_marks k e =
-          ap (λ (i : ℕ). get_or (set s.commits_heard s.prepared commits) i 0) e
-          ∙ get_or-set_same s.commits_heard s.prepared commits 0 (let long = inv.shape.long_commits in omega arith)
-
-      old_marks : (k : ℕ) → k < s.prepared → get_or (set s.commits_heard s.prepared commits) k 0 ≡ commits_at s k
-      old_marks k l = get_or-set_other s.commits_heard s.prepared k commits 0 (omega arith)
 
   -- a vote is no statement of another kind
   no_other : (kind : Statement → Bool) → ((v n : ℕ) (r : Request) → T (kind (prepare v n r)) → ⊥) → ((v n : ℕ) (r : Request) → T (kind (commit v n r)) → ⊥)
@@ -135,44 +106,11 @@ module _ {machine : RequestMachine} {facts facts' : Facts machine} (s : State) (
 hearing : {machine : RequestMachine} {facts : Facts machine} (s : State) (state : machine.State) → Inv machine facts s state → (k commits : ℕ) → k < s.prepared
     → ((g : ℕ) → T (names commits g) → T (names (commits_at s k) g) ⊎ facts.Known g (commit s.view (suc k) (prepared_at s k)))
     → Inv machine facts (with_commits s k commits) state
-hearing {facts = facts} s state inv k commits below heard =
-    record {
-      shape =
-          record {
-            inside = inv.shape.inside;
-            long_requests = inv.shape.long_requests;
-            long_log = inv.shape.long_log;
-            long_commits = length-set s.commits_heard k commits ∙ inv.shape.long_commits;
-            long_reports = inv.shape.long_reports;
-            long_closings = inv.shape.long_closings;
-            few_prepared = inv.shape.few_prepared;
-            few_logged = inv.shape.few_logged;
-            executed_logged = inv.shape.executed_logged;
-            low_view = inv.shape.low_view;
-            grouped = inv.shape.grouped;
-          };
-      votes = inv.votes;
-      prepares = record { led = inv.prepares.led; heard = all_heard };
-      executes = inv.executes;
-      replies = inv.replies;
-      logs = inv.logs;
-      reports = inv.reports;
-      closings = inv.closings;
-      holds = inv.holds;
-      opens = inv.opens;
-    }
-  where
-    all_heard : T (working s.phase) → (i g : ℕ) → i < s.prepared → g < replicas s.config → T (names (get_or (set s.commits_heard k commits) i 0) g)
-        → facts.Known g (commit s.view (suc i) (prepared_at s i))
-    all_heard w i g l inside t = ⊎_elim here there (cases_eq i k)
-      where
-        here : i ≡ k → facts.Known g (commit s.view (suc i) (prepared_at s i))
-        here e =
-            let same = get_or-set_same s.commits_heard k commits 0 (let long = inv.shape.long_commits in let few = inv.shape.few_prepared in omega arith) in
-            rw e (⊎_elim (λ old. inv.prepares.heard w k g below inside old) (λ new. new) (heard g (rw (e, same) at t)))
-
-        there : (i ≡ k → ⊥) → facts.Known g (commit s.view (suc i) (prepared_at s i))
-        there ne = inv.prepares.heard w i g l inside (rw (get_or-set_other s.commits_heard k i commits 0 ne) at t)
+hearing {machine} {facts} s state inv k commits below heard =
+    let shape : Shape (with_commits s k commits) = search (arith, length-set {A = ℕ}, inv.shape) in
+    let prepares : Prepares s.config machine facts s.number s.view s.phase s.prepared s.requests (set s.commits_heard k commits) =
+    record { led = inv.prepares.led; heard = λ w i g l inside t. grind (arith, elements, heard g, inv.prepares.heard w i g l inside, inv.shape.long_commits) } in
+    assumption
 
 -- ---- accepted calls
 
