@@ -1,5 +1,5 @@
 -- Voting for a number (ordering, repeating, hearing a PREPARE) and hearing a COMMIT keep what an honest replica keeps.
-use Rattle.std.proofs.Common.{◌≡◌, ℕ, suc, ◌+◌, ◌-◌, ◌^◌, ◌<◌, Bool, not, ◌&&◌, ◌||◌, T, eqb, ltb, leb, ◌⊎◌, List, get_or, set, Some, Option, sym, refl, ap, ◌∙◌, subst, inl, inr, ⊎_elim, add-one, arith, eqb→eq, ltb→lt, leb→le, length-set, get_or-set_other, get_or-set_same}
+use Rattle.std.proofs.Common.{◌≡◌, ℕ, suc, ◌+◌, ◌-◌, ◌^◌, ◌<◌, ◌≤◌, Bool, not, ◌&&◌, ◌||◌, T, eqb, ltb, leb, ◌⊎◌, List, get_or, set, Some, None, Option, sym, refl, ap, ◌∙◌, subst, inl, inr, ⊎_elim, add-one, arith, eqb→eq, ltb→lt, leb→le, length-set, get_or-set_other, get_or-set_same}
 use native.Mathlib.Nat.{zero-div}
 use lib.Bits.{bit_or}
 use Rattle.std.proofs.lemmas.Bool.Decides.{nat_tests}
@@ -136,51 +136,39 @@ module _ (sealed : ℕ → List ℕ → Bool) (fits : ℕ → Bool) (room : ℕ)
   lead_keeps : T (working s.phase) → T (leads s) → s.prepared < last_number → (r : Request) → (s.prepared < s.selected → r ≡ selected_at s s.prepared)
       → Kept (with_prepared s r 0) rest (Some (prepare s.view (s.prepared + 1) r))
   lead_keeps works leading below r selected =
-      vote_keeps works below r 0 selected (prepare s.view (s.prepared + 1) r)
-      (rw (add-one s.prepared) (sym (vote_primary s.config s.view s.number (suc s.prepared) r leading)))
+      vote_keeps works below r 0 selected (prepare s.view (s.prepared + 1) r) (grind arith)
       (λ adds. rw (← eqb→eq s.number (primary s.config s.view) leading, ← add-one s.prepared) (adds.new _ refl))
       (λ adds g inside t. absurd (names_nothing g t))
 
   module _ (s' : State) (effect : Effect) (statement : Option Statement) (answer : ℕ) where
     pub order_keeps : (r : Request) → order_step sealed fits room s r ≡ accepted s' effect statement answer → Kept s' effect statement
     order_keeps r e =
-        let e1 = needed (working s.phase && leads s) NotAllowed _ e in
-        let e2 = needed (leb s.selected s.prepared) OutOfTurn _ e1.1 in
-        let e3 = needed (ltb s.prepared last_number) NoneLeft _ e2.1 in
-        let (works, leading) = each_passes (working s.phase) (leads s) e1.0 in
-        let past = leb→le s.selected s.prepared e2.0 in
-        as_accepted Kept (sealing sealed fits room (prepare s.view (s.prepared + 1) r) (with_prepared s r 0) rest (s.prepared + 1) e3.1)
-        (lead_keeps works leading (ltb→lt s.prepared last_number e3.0) r (λ l. absurd (omega arith)))
+        let is : T (working s.phase) × T (leads s) × (s.selected ≤ s.prepared) × (s.prepared < last_number)
+        × (accepted (with_prepared s r 0) rest (Some (prepare s.view (s.prepared + 1) r)) (s.prepared + 1) ≡ accepted s' effect statement answer) =
+        grind (arith, nat_tests) in
+        as_accepted Kept is.4 (lead_keeps is.0 is.1 is.3 r (λ l. absurd (omega arith)))
 
     pub repeat_keeps : repeat_step sealed fits room s ≡ accepted s' effect statement answer → Kept s' effect statement
     repeat_keeps e =
         let r = selected_at s s.prepared in
-        let e1 = needed (working s.phase && leads s) NotAllowed _ e in
-        let e2 = needed (ltb s.prepared s.selected) OutOfTurn _ e1.1 in
-        let e3 = needed (ltb s.prepared last_number) NoneLeft _ e2.1 in
-        let (works, leading) = each_passes (working s.phase) (leads s) e1.0 in
-        as_accepted Kept (sealing sealed fits room (prepare s.view (s.prepared + 1) r) (with_prepared s r 0) rest (s.prepared + 1) e3.1)
-        (lead_keeps works leading (ltb→lt s.prepared last_number e3.0) r (λ l. refl))
+        let is : T (working s.phase) × T (leads s) × (s.prepared < last_number)
+        × (accepted (with_prepared s r 0) rest (Some (prepare s.view (s.prepared + 1) r)) (s.prepared + 1) ≡ accepted s' effect statement answer) =
+        grind (arith, nat_tests) in
+        as_accepted Kept is.3 (lead_keeps is.0 is.1 is.2 r (λ l. refl))
 
     pub hear_prepare_keeps : (knows : (x : ℕ) (st : Statement) → Made s.config sealed x st → facts.Known x st) (g view number : ℕ) (r : Request) → view ≡ s.view
         → Made s.config sealed g (prepare view number r) → T (allows s (prepare view number r)) → T (entitles s g (prepare view number r))
         → hear_prepare sealed fits room s number r ≡ accepted s' effect statement answer → Kept s' effect statement
     hear_prepare_keeps knows g view number r same_view made allowed entitled e =
-        let e1 = needed (eqb number (s.prepared + 1)) OutOfTurn _ e in
-        let e2 = needed (leb s.selected s.prepared || same r (selected_at s s.prepared)) OtherRequest _ e1.1 in
-        let next = eqb→eq number (s.prepared + 1) e1.0 in
-        let (works, follows) = each_passes (working s.phase) (follower s.config s.view s.number) allowed in
-        let not_leading = (each_passes (member s.config s.view s.number) (not (leads s)) follows).1 in
-        let numbered : number ≡ suc s.prepared = omega arith in
-        let its_vote : commit s.view number r ≡ vote s.config s.view s.number (suc s.prepared) r =
-        rw numbered (sym (vote_follower s.config s.view s.number (suc s.prepared) r not_leading)) in
-        let in_range = vote_fits s.config g view number r (rw (vote_primary s.config view g number r (rw same_view entitled)) made.0) in
+        let says = commit s.view number r in
+        let is : (number ≡ suc s.prepared) × (s.prepared < s.selected → r ≡ selected_at s s.prepared)
+        × (accepted (with_prepared s r (2 ^ s.number)) rest (Some says) (size says) ≡ accepted s' effect statement answer) =
+        grind (arith, nat_tests, same_equal r (selected_at s s.prepared)) in
+        let numbered = is.0 in
+        let in_range : number ≤ last_number = grind (arith, nat_tests, made.0) in
         let from = eqb→eq g (primary s.config s.view) entitled in
-        as_accepted Kept (sealing sealed fits room (commit s.view number r) (with_prepared s r (2 ^ s.number)) rest (size (commit s.view number r)) e2.1)
-        (vote_keeps works (omega arith) r (2 ^ s.number)
-        (λ l. ⊎_elim (λ past. absurd (omega (arith, leb→le s.selected s.prepared past))) (λ alike. same_equal r (selected_at s s.prepared) alike)
-        (one_passes (leb s.selected s.prepared) (same r (selected_at s s.prepared)) e2.0))
-        (commit s.view number r) its_vote
+        as_accepted Kept is.2
+        (vote_keeps (grind arith) (omega arith) r (2 ^ s.number) is.1 says (grind arith)
         (λ adds. rw (← from, ← same_view, ← numbered) (adds.grows.known g _ (knows g _ made)))
         (λ adds x inside t. rw (← names_one s.number x t, ← numbered) (adds.new _ refl)))
 
@@ -188,21 +176,16 @@ module _ (sealed : ℕ → List ℕ → Bool) (fits : ℕ → Bool) (room : ℕ)
         → Made s.config sealed g (commit view number r) → T (allows s (commit view number r)) → T (entitles s g (commit view number r))
         → hear_commit sealed fits room s g number r ≡ accepted s' effect statement answer → Kept s' effect statement
     hear_commit_keeps knows g view number r same_view made allowed entitled e =
-        let e1 = needed (leb number s.prepared) OutOfTurn _ e in
-        let e2 = needed (same r (prepared_at s (number - 1))) OtherRequest _ e1.1 in
-        let e3 = needed (not (names (commits_at s (number - 1)) g)) HeardBefore _ e2.1 in
-        let follows = (each_passes (follower s.config s.view g) (not (eqb g s.number)) entitled).0 in
-        let not_leading = (each_passes (member s.config s.view g) (not (eqb g (primary s.config s.view))) follows).1 in
-        let in_range = vote_fits s.config g view number r (rw (vote_follower s.config view g number r (rw same_view not_leading)) made.0) in
-        let numbered : number ≡ suc (number - 1) = omega arith in
-        let alike = same_equal r (prepared_at s (number - 1)) e2.0 in
-        let below = leb→le number s.prepared e1.0 in
-        as_accepted Kept e3.1
+        let commits = bit_or (commits_at s (number - 1)) (2 ^ g) in
+        let is : (number ≤ s.prepared) × (r ≡ prepared_at s (number - 1))
+        × (accepted (with_commits s (number - 1) commits) rest None 0 ≡ accepted s' effect statement answer) =
+        grind (arith, nat_tests, same_equal r (prepared_at s (number - 1))) in
+        let numbered : number ≡ suc (number - 1) = grind (arith, nat_tests, made.0) in
+        let told = knows g _ made in
+        as_accepted Kept is.2
         (record {
           in_range = tt;
           keeps = λ adds.
-              hearing s state (inv_adds adds (λ t. t) inv) (number - 1) (bit_or (commits_at s (number - 1)) (2 ^ g)) (omega arith)
-              (λ x t.
-              ⊎_elim inl (λ new. inr (rw (← eqb→eq g x new, ← numbered, ← same_view, ← alike) (adds.grows.known g _ (knows g _ made))))
-              (one_passes (names (commits_at s (number - 1)) x) (eqb g x) (rw (names_more (commits_at s (number - 1)) g x) at t)));
+              hearing s state (inv_adds adds (λ t. t) inv) (number - 1) commits (omega arith)
+              (λ x t. grind (arith, nat_tests, names_more (commits_at s (number - 1)) g x, adds.grows.known g _ told));
         })
