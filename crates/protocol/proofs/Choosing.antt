@@ -3,22 +3,21 @@
 use Rattle.std.proofs.Common.{◌≡◌, ℕ, zero, suc, ◌<◌, ◌≤◌, Bool, true, false, cond, T, ltb, ◌⊎◌, List, length, get_or, Some, None, Option, sym, refl, ap, ◌∙◌, inl, inr, ⊎_elim, le_refl, not-suc-le-zero, arith}
 use Rattle.std.specs.List.{slice_get}
 use Rattle.std.proofs.lemmas.List.FromFn.{get_or-map-range_with_len}
-use Rattle.std.proofs.lemmas.Option.{slice_get-get_or, slice_get_past}
-use Rattle.std.proofs.lemmas.Bool.{ltb-true, ltb-false, cond_both, cases_cond}
+use Rattle.std.proofs.lemmas.Option.{none-some, slice_get_within, slice_get_past, gets}
+use Rattle.std.proofs.lemmas.Bool.{cond_both}
+use Rattle.std.proofs.lemmas.Bool.Decides.{nat_tests}
 use Rattle.wire.specs.declared.entry.LogEntry.{LogEntry}
 use Rattle.wire.specs.declared.request.Request.{Request}
 use Rattle.wire.specs.Kinds.{last_number}
 use Rattle.protocol.specs.declared.state.State.{State}
 use Rattle.protocol.specs.Selecting.{peers, named, counts, length_of, entry_at, longest, later, latest, request_of, selects, choice, choices}
 use Rattle.protocol.specs.States.{blank, blank_entry, held}
-use Rattle.protocol.proofs.Lists.{none_some, element_at}
 use Rattle.protocol.proofs.Tests.{last_or_below}
 
 -- the largest value bounds each
 longest_bounds : (n : ℕ) (f : ℕ → ℕ) (x : ℕ) → x < n → f x ≤ longest n f
 longest_bounds zero f x l = absurd (not-suc-le-zero l)
-longest_bounds (suc n) f x l =
-    ⊎_elim (λ (same : x ≡ n). rw same (omega arith)) (λ (below : x < n). omega (arith, longest_bounds n f x below)) (last_or_below x n l)
+longest_bounds (suc n) f x l = grind (arith, longest_bounds n f x)
 
 -- an entry of no lower view
 abbrev NoLower : Option LogEntry → LogEntry → Type 0
@@ -28,64 +27,42 @@ NoLower o e = (d : LogEntry) × (o ≡ Some d) × (e.view ≤ d.view)
 later_from : (a b : Option LogEntry) (e : LogEntry) → later a b ≡ Some e → (a ≡ Some e) ⊎ (b ≡ Some e)
 later_from None b e q = inr q
 later_from (Some d) None e q = inl q
-later_from (Some d) (Some c) e q =
-    ⊎_elim (λ (x : Some e ≡ Some c). inr (sym x)) (λ (x : Some e ≡ Some d). inl (sym x)) (cases_cond (ltb d.view c.view) (Some c) (Some d) (Some e) (sym q))
+later_from (Some d) (Some c) e q = grind arith
 
-later_first : (a b : Option LogEntry) (e : LogEntry) → NoLower a e → NoLower (later a b) e
-later_first None b e h = absurd (none_some _ h.1)
-later_first (Some d) None e h = h
-later_first (Some d) (Some c) e h =
-    let same : d.view ≡ h.0.view = cc in
+later_no_lower : (a b : Option LogEntry) (e : LogEntry) → NoLower a e ⊎ NoLower b e → NoLower (later a b) e
+later_no_lower None b e (inl h) = absurd (none-some _ h.1)
+later_no_lower None b e (inr h) = h
+later_no_lower (Some d) None e (inl h) = h
+later_no_lower (Some d) None e (inr h) = absurd (none-some _ h.1)
+later_no_lower (Some d) (Some c) e h =
     cond_both (ltb d.view c.view) (Some c) (Some d) (λ o. NoLower o e)
-    (λ t. (c, refl, omega (arith, ltb-true d.view c.view t))) (λ t. (d, refl, omega arith))
-
-later_second : (a b : Option LogEntry) (e : LogEntry) → NoLower b e → NoLower (later a b) e
-later_second None b e h = h
-later_second (Some d) None e h = absurd (none_some _ h.1)
-later_second (Some d) (Some c) e h =
-    let same : c.view ≡ h.0.view = cc in
-    cond_both (ltb d.view c.view) (Some c) (Some d) (λ o. NoLower o e)
-    (λ t. (c, refl, omega arith)) (λ t. (d, refl, omega (arith, ltb-false d.view c.view t)))
+    (λ t. (c, refl, grind (arith, nat_tests))) (λ t. (d, refl, grind (arith, nat_tests)))
 
 -- the latest entry is one of them, of no lower view than any
 latest_from : (n : ℕ) (f : ℕ → Option LogEntry) (e : LogEntry) → latest n f ≡ Some e → (x : ℕ) × (x < n) × (f x ≡ Some e)
-latest_from zero f e q = absurd (none_some e q)
-latest_from (suc n) f e q =
-    ⊎_elim {C = (x : ℕ) × (x < suc n) × (f x ≡ Some e)}
-    (λ (below : latest n f ≡ Some e). let r = latest_from n f e below in (r.0, omega arith, r.2)) (λ (here : f n ≡ Some e). (n, omega arith, here))
-    (later_from (latest n f) (f n) e q)
+latest_from zero f e q = cc
+latest_from (suc n) f e q = grind (arith, latest_from n f e, later_from (latest n f) (f n) e q)
 
 latest_no_lower : (n : ℕ) (f : ℕ → Option LogEntry) (x : ℕ) (e : LogEntry) → x < n → f x ≡ Some e → NoLower (latest n f) e
 latest_no_lower zero f x e l q = absurd (not-suc-le-zero l)
 latest_no_lower (suc n) f x e l q =
-    ⊎_elim {C = NoLower (later (latest n f) (f n)) e}
-    (λ (same : x ≡ n). later_second (latest n f) (f n) e (e, rw same at q, le_refl _))
-    (λ (below : x < n). later_first (latest n f) (f n) e (latest_no_lower n f x e below q)) (last_or_below x n l)
+    later_no_lower (latest n f) (f n) e
+    (⊎_elim (λ (same : x ≡ n). inr (e, rw same at q, le_refl _)) (λ below. inl (latest_no_lower n f x e below q)) (last_or_below x n l))
 
 -- the entry after the first k of a report is the one that the list has there
 entry_in : (es : List LogEntry) (k : ℕ) → entry_at (Some es) k ≡ slice_get es k
-entry_in es k =
-    cond_both (ltb k (length es)) (Some (get_or es k blank_entry)) None (λ o. o ≡ slice_get es k)
-    (λ t. sym (slice_get-get_or es k blank_entry (ltb-true k (length es) t))) (λ t. sym (slice_get_past es k (ltb-false k (length es) t)))
+entry_in es k = grind (arith, nat_tests, gets, slice_get_past es k)
 
 entry_from : (o : Option (List LogEntry)) (k : ℕ) (e : LogEntry) → entry_at o k ≡ Some e → (es : List LogEntry) × (o ≡ Some es) × (slice_get es k ≡ Some e)
-entry_from None k e q = absurd (none_some e q)
-entry_from (Some es) k e q = (es, refl, sym (entry_in es k) ∙ q)
+entry_from None k e q = cc
+entry_from (Some es) k e q = grind (arith, entry_in es k)
 
 -- a report counts if it is held and a noted closing names its replica
 pub counted : (s : State) (x : ℕ) (es : List LogEntry) → counts s x ≡ Some es → T (named s x) × (held s x ≡ Some es)
-counted s x es q = go (named s x) (held s x) q
-  where
-    go : (t : Bool) (o : Option (List LogEntry)) → cond t o None ≡ Some es → T t × (o ≡ Some es)
-    go true o q = (tt, q)
-    go false o q = absurd (none_some es q)
+counted s x es q = grind arith
 
 pub counts_held : (s : State) (x : ℕ) → T (named s x) → counts s x ≡ held s x
-counts_held s x t = go (named s x) (held s x) t
-  where
-    go : (t : Bool) (o : Option (List LogEntry)) → T t → cond t o None ≡ o
-    go true o t = refl
-    go false o t = absurd t
+counts_held s x t = grind arith
 
 -- what is picked for the number after k: a request with an entry of that view or a later one in a report that counts
 pub record Picked (s : State) (k view : ℕ) (r : Request) : Type 0 where
@@ -102,7 +79,7 @@ pub record Picked (s : State) (k view : ℕ) (r : Request) : Type 0 where
 pub selects_past : (s : State) (x k : ℕ) (es : List LogEntry) (e : LogEntry) → x < peers s → counts s x ≡ Some es → slice_get es k ≡ Some e → k < selects s
 selects_past s x k es e l q at =
     let long : length_of (counts s x) ≡ length es = ap length_of q in
-    omega (arith, (element_at es k e e at).0, longest_bounds (peers s) (λ h. length_of (counts s h)) x l)
+    omega (arith, slice_get_within es k e at, longest_bounds (peers s) (λ h. length_of (counts s h)) x l)
 
 pub picks : (s : State) (x k : ℕ) (es : List LogEntry) (e : LogEntry) → x < peers s → counts s x ≡ Some es → slice_get es k ≡ Some e
     → Picked s k e.view (choice s k)

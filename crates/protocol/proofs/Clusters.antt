@@ -2,6 +2,7 @@
 use Rattle.std.proofs.Common.{◌≡◌, ℕ, Bool, not, T, List, [], ◌∷◌, ◌++◌, length, set, Some, Ok, Result, sym, refl, ap, ◌∙◌, subst, ⊎_elim, length-set}
 use Rattle.std.specs.List.{slice_get}
 use Rattle.std.proofs.lemmas.Bool.{cases_eq}
+use Rattle.std.proofs.lemmas.Option.{same_Some}
 use Rattle.wire.specs.declared.config.ClusterConfig.{ClusterConfig}
 use Rattle.wire.specs.Configs.{replicas}
 use Rattle.wire.specs.Statements.{Statement}
@@ -16,7 +17,7 @@ use Rattle.protocol.specs.Steps.{Act, orders, repeats, hears, carries_out, doubt
 use Rattle.protocol.specs.Verdicts.{state_after, machine_after, sealed_after}
 use Rattle.protocol.proofs.Grow.{Grows, Adds, InRange, inv_grows}
 use Rattle.protocol.proofs.History.{Past, Leaves, IsCall, among_new, history_grows, past_more}
-use Rattle.protocol.proofs.Lists.{some_equal, nth_set, nth_set_other}
+use Rattle.protocol.proofs.Lists.{nth_set, nth_set_other}
 use Rattle.protocol.proofs.Parts.{Inv}
 use Rattle.protocol.proofs.Stepping.{SamePlace, Shows}
 use Rattle.protocol.proofs.Saying.{statement_of, sealed_said, sealed_is, said_kept, said_by_others, said_new, said_only}
@@ -57,12 +58,6 @@ module _ (config : ClusterConfig) (machine : RequestMachine) (byzantine : ℕ �
 -- what an accepted call shows
 pub shows : (config : ClusterConfig) (machine : RequestMachine) (byzantine : ℕ → Bool) (ds : List Deed) (deed : Deed) (d : Cluster machine.State)
     (s : State) (act : Act) (answer : ℕ) → IsCall deed s.number act s answer → Shows (facts_of config machine byzantine (ds ++ deed ∷ []) d) s act
-shows config machine byzantine ds deed d s (orders r) answer is = tt
-shows config machine byzantine ds deed d s repeats answer is = tt
-shows config machine byzantine ds deed d s (hears bytes) answer is = tt
-shows config machine byzantine ds deed d s carries_out answer is = tt
-shows config machine byzantine ds deed d s doubts answer is = tt
-shows config machine byzantine ds deed d s reports answer is = tt
 shows config machine byzantine ds deed d s closes answer is =
     record {
       state = s;
@@ -78,6 +73,7 @@ shows config machine byzantine ds deed d s opens answer is =
       accepted = record { room = is.0; done = subst (λ (x : Deed). Among x (ds ++ deed ∷ [])) is.1 (among_new deed ds) };
       in_view = refl;
     }
+shows config machine byzantine ds deed d s act answer is = tt
 
 -- a call leaves number and config as they were
 same_after : (s : State) (verdict : Verdict) → SamePlace s verdict → ((state_after s verdict).number ≡ s.number) × ((state_after s verdict).config ≡ s.config)
@@ -174,4 +170,4 @@ module _ (config : ClusterConfig) (machine : RequestMachine) (byzantine : ℕ �
     where
       is_new : (h : ℕ) (node' : Node machine.State) → slice_get d.nodes h ≡ Some node' → h ≡ at
           → node' ≡ record { state = state_after node.state verdict; machine = machine_after machine node.machine verdict }
-      is_new h node' e is = some_equal _ _ (sym e ∙ ap (slice_get d.nodes) is ∙ at_place)
+      is_new h node' e is = same_Some _ _ (sym e ∙ ap (slice_get d.nodes) is ∙ at_place)

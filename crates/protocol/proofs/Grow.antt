@@ -22,34 +22,19 @@ use Rattle.protocol.proofs.Parts.{Votes, Prepares, Executes, Replies, Logs, Repo
 abbrev pub is_vote : Statement → Bool
 is_vote (prepare v n r) = true
 is_vote (commit v n r) = true
-is_vote (doubt v) = false
-is_vote (report v es) = false
-is_vote (closing v mask) = false
-is_vote (reply v n r outcome) = false
+is_vote st = false
 
 abbrev pub is_report : Statement → Bool
-is_report (prepare v n r) = false
-is_report (commit v n r) = false
-is_report (doubt v) = false
 is_report (report v es) = true
-is_report (closing v mask) = false
-is_report (reply v n r outcome) = false
+is_report st = false
 
 abbrev pub is_closing : Statement → Bool
-is_closing (prepare v n r) = false
-is_closing (commit v n r) = false
-is_closing (doubt v) = false
-is_closing (report v es) = false
 is_closing (closing v mask) = true
-is_closing (reply v n r outcome) = false
+is_closing st = false
 
 abbrev pub is_reply : Statement → Bool
-is_reply (prepare v n r) = false
-is_reply (commit v n r) = false
-is_reply (doubt v) = false
-is_reply (report v es) = false
-is_reply (closing v mask) = false
 is_reply (reply v n r outcome) = true
+is_reply st = false
 
 -- the kinds that a part is about
 abbrev pub matters : Statement → Bool

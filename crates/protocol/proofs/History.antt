@@ -71,14 +71,10 @@ module _ (config : ClusterConfig) (machine : RequestMachine) (facts : Facts mach
 
   -- what an accepted call of a replica in state s leaves behind
   abbrev pub Leaves : State → Act → (answer : ℕ) → Type 0
-  Leaves s (orders r) answer = Unit {0}
-  Leaves s repeats answer = Unit {0}
-  Leaves s (hears bytes) answer = Unit {0}
   Leaves s carries_out answer = facts.Known h (reply s.view (s.executed + 1) (next_request s) answer)
-  Leaves s doubts answer = Unit {0}
-  Leaves s reports answer = Unit {0}
   Leaves s closes answer = ClosingNames config machine facts h s.view (holds s)
   Leaves s opens answer = 0 < s.view → ClosedBefore config machine facts h s.view
+  Leaves s act answer = Unit {0}
 
 module _ (config : ClusterConfig) (machine : RequestMachine) (byzantine : ℕ → Bool) (ds : List Deed) (c : Cluster machine.State) (x : Deed) (d : Cluster machine.State)
     (grows : Grows (before config machine byzantine ds c x d) (after config machine byzantine ds c x d)) where

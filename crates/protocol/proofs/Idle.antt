@@ -1,7 +1,8 @@
 -- Parts that say little of a replica that does not work in its view, and what another phase, reports and closings leave.
-use Rattle.std.proofs.Common.{◌≡◌, ℕ, suc, ◌+◌, ◌*◌, ◌<◌, ◌≤◌, T, ◌≢◌, ◌⊎◌, List, length, get_or, take, set, Some, None, Option, sym, ap, ◌∙◌, inl, inr, ⊎_elim, arith, get_or-set_other, get_or-set_same}
+use Rattle.std.proofs.Common.{◌≡◌, ℕ, zero, suc, refl, replicate, ◌+◌, ◌*◌, ◌<◌, ◌≤◌, T, ◌≢◌, ◌⊎◌, List, length, get_or, take, set, Some, None, Option, sym, ap, ◌∙◌, inl, inr, ⊎_elim, arith, get_or-set_other, get_or-set_same}
 use lib.Dec.{not_T}
 use Rattle.std.proofs.lemmas.Bool.{cases_eq}
+use Rattle.std.proofs.lemmas.Option.{none-some}
 use Rattle.wire.specs.declared.config.ClusterConfig.{ClusterConfig}
 use Rattle.wire.specs.declared.config.ClusterSize.{ClusterSize}
 use Rattle.wire.specs.declared.config.ClusterSize.TheVariants.{Three, Five}
@@ -18,45 +19,30 @@ use Rattle.protocol.specs.declared.state.State.{State}
 use Rattle.protocol.specs.Facts.{Facts}
 use Rattle.protocol.specs.Replay.{RequestMachine}
 use Rattle.protocol.specs.Rules.{Certified}
-use Rattle.protocol.specs.States.{blank_entry, most_replicas, working, turning, gathering, entries_in, changed_to}
+use Rattle.protocol.specs.States.{blank_entry, most_replicas, none_of_each, working, turning, gathering, entries_in, changed_to}
 use Rattle.protocol.proofs.Parts.{serving, has_closed, Shape, Votes, Prepares, Executes, Logs, Closings, Holds, Opens}
 
 -- ---- phases
 
 pub turning_idle : (phase : Phase) → T (turning phase) → T (working phase) → ⊥
-turning_idle Working t u = t
-turning_idle Aside t u = t
 turning_idle Turning t u = u
-turning_idle Gathering t u = t
-turning_idle Closed t u = t
+turning_idle phase t u = t
 
 pub gathering_idle : (phase : Phase) → T (gathering phase) → T (working phase) → ⊥
-gathering_idle Working t u = t
-gathering_idle Aside t u = t
-gathering_idle Turning t u = t
 gathering_idle Gathering t u = u
-gathering_idle Closed t u = t
+gathering_idle phase t u = t
 
 pub turning_unclosed : (phase : Phase) → T (turning phase) → T (has_closed phase) → ⊥
-turning_unclosed Working t u = t
-turning_unclosed Aside t u = t
 turning_unclosed Turning t u = u
-turning_unclosed Gathering t u = t
-turning_unclosed Closed t u = t
+turning_unclosed phase t u = t
 
 pub gathering_unclosed : (phase : Phase) → T (gathering phase) → T (has_closed phase) → ⊥
-gathering_unclosed Working t u = t
-gathering_unclosed Aside t u = t
-gathering_unclosed Turning t u = t
 gathering_unclosed Gathering t u = u
-gathering_unclosed Closed t u = t
+gathering_unclosed phase t u = t
 
 pub gathering_serves : (phase : Phase) → T (gathering phase) → T (serving phase)
-gathering_serves Working t = tt
-gathering_serves Aside t = t
-gathering_serves Turning t = t
 gathering_serves Gathering t = tt
-gathering_serves Closed t = tt
+gathering_serves phase t = absurd t
 
 -- ---- parts of a replica that does not work
 
@@ -172,3 +158,14 @@ pub filled_report : (places : List (Option HeldReport)) (g x : ℕ) (a : HeldRep
     → ((x ≡ g) × (entries_in (get_or (set places g (Some a)) x None) ≡ Some es)) ⊎ (entries_in (get_or (set places g (Some a)) x None) ≡ entries_in (get_or places x None))
 filled_report places g x a es inside is =
     ⊎_elim (λ z. inl (z.0, ap entries_in z.1 ∙ ap {B = Option (List LogEntry)} Some is)) (λ z. inr (ap entries_in z)) (filled places g x a inside)
+
+none_in : {A : Type 0} (n x : ℕ) → get_or (replicate {A = Option A} n None) x None ≡ None
+none_in zero x = refl
+none_in (suc n) zero = refl
+none_in (suc n) (suc x) = none_in n x
+
+pub none_noted : (g mask : ℕ) → get_or (none_of_each {A = ℕ}) g None ≡ Some mask → ⊥
+none_noted g mask e = none-some mask (sym (none_in most_replicas g) ∙ e)
+
+pub none_held : (x : ℕ) (es : List LogEntry) → entries_in (get_or (none_of_each {A = HeldReport}) x None) ≡ Some es → ⊥
+none_held x es e = none-some es (sym (ap entries_in (none_in {A = HeldReport} most_replicas x)) ∙ e)

@@ -2,6 +2,7 @@
 use Rattle.std.proofs.Common.{◌≡◌, ℕ, suc, ◌<◌, Bool, not, ◌||◌, T, List, get_or, is_some, Some, None, Option, sym, refl, ◌∙◌, not-suc-le-zero, arith}
 use Rattle.std.specs.List.{slice_get}
 use Rattle.std.proofs.lemmas.List.{length-replicate}
+use Rattle.std.proofs.lemmas.Option.{slice_get_within, get_or_from_slice_get}
 use Rattle.wire.specs.declared.entry.LogEntry.{LogEntry}
 use Rattle.wire.specs.declared.request.Request.{Request}
 use Rattle.wire.specs.Kinds.{last_number}
@@ -16,10 +17,9 @@ use Rattle.protocol.specs.Replay.{RequestMachine}
 use Rattle.protocol.specs.Rules.{Backed, Heeded, Chosen, nothing}
 use Rattle.protocol.specs.Selecting.{peers, holds, holds_all, named, mask_names, selects, choices}
 use Rattle.protocol.specs.States.{blank, blank_entry, closed, held, noted, with_selection}
-use Rattle.protocol.specs.Steps.{Effect, accepted, all_noted, open_step}
+use Rattle.protocol.specs.Steps.{Effect, renew, accepted, all_noted, open_step}
 use Rattle.protocol.proofs.Choosing.{counted, counts_held, picks, selects_past, choices_at}
 use Rattle.protocol.proofs.Grow.{Keeps, inv_adds}
-use Rattle.protocol.proofs.Lists.{element_at}
 use Rattle.protocol.proofs.Parts.{Inv}
 use Rattle.protocol.proofs.Tests.{then_passes, every_at, all_at, any_in, needed, as_accepted}
 
@@ -30,11 +30,7 @@ the_some (Some a) t = (a, refl)
 
 -- the phase in which a replica opens
 pub is_closed : (phase : Phase) → T (closed phase) → phase ≡ Closed
-is_closed Working t = absurd t
-is_closed Aside t = absurd t
-is_closed Turning t = absurd t
-is_closed Gathering t = absurd t
-is_closed Closed t = refl
+is_closed phase t = grind arith
 
 module _ (machine : RequestMachine) (facts : Facts machine) (s : State) (state : machine.State) (inv : Inv machine facts s state)
     (shut : T (closed s.phase)) (noting : T (all_noted s)) (holding : T (holds_all s (named s))) (opened : facts.Opened s.number s.view) where
@@ -45,7 +41,8 @@ module _ (machine : RequestMachine) (facts : Facts machine) (s : State) (state :
       let counting = counts_held s x t ∙ has in
       let pick = picks s x k es e l counting at in
       let given = (counted s pick.who pick.entries pick.counting).1 in
-      let (within, is) = element_at pick.entries k pick.entry blank_entry pick.there in
+      let within = slice_get_within pick.entries k pick.entry pick.there in
+      let is = get_or_from_slice_get pick.entries k pick.entry blank_entry pick.there in
       let small : k < last_number = omega (arith, inv.holds.short pick.who pick.entries given) in
       let for_r : pick.entry.request ≡ r = pick.requested ∙ sym (choices_at s k small) ∙ sym (select (selects_past s x k es e l counting at)) in
       let (early, sound) = rw is at (inv.holds.certified pick.who pick.entries given k within) in
@@ -77,42 +74,18 @@ module _ (machine : RequestMachine) (facts : Facts machine) (s : State) (state :
 
   opening_keeps : Inv machine facts (with_selection s (selects s) (choices s)) machine.fresh
   opening_keeps =
+      let is = is_closed s.phase shut in
       record {
-        shape =
-            record {
-              inside = inv.shape.inside;
-              long_requests = inv.shape.long_requests;
-              long_log = inv.shape.long_log;
-              long_commits = length-replicate {A = ℕ} last_number 0;
-              long_reports = inv.shape.long_reports;
-              long_closings = inv.shape.long_closings;
-              few_prepared = omega arith;
-              few_logged = inv.shape.few_logged;
-              executed_logged = omega arith;
-              low_view = inv.shape.low_view;
-              grouped = λ _. inv.shape.grouped (rw (is_closed s.phase shut) tt);
-            };
-        votes =
-            record {
-              none_later = inv.votes.none_later;
-              in_view = λ n r known. absurd (rw (is_closed s.phase shut) at (inv.votes.in_view n r known).0);
-              one_vote = inv.votes.one_vote;
-              chosen = inv.votes.chosen;
-            };
-        prepares = record { led = λ t k l. absurd (not-suc-le-zero l); heard = λ t k g l. absurd (not-suc-le-zero l) };
+        shape = search (arith, length-replicate {A = ℕ} last_number 0, inv.shape);
+        votes = search (arith, inv.votes);
+        prepares = search arith;
         executes = record { so_far = λ t. nothing };
         replies = inv.replies;
-        logs = record { certified = inv.logs.certified; none_later = inv.logs.none_later; earlier = λ t. absurd t };
+        logs = search (arith, inv.logs);
         reports = inv.reports;
-        closings =
-            record {
-              none_later = inv.closings.none_later;
-              in_view = λ mask known. tt;
-              one_closing = inv.closings.one_closing;
-              closed = λ _ above. inv.closings.closed (rw (is_closed s.phase shut) tt) above;
-            };
+        closings = search (arith, inv.closings);
         holds = inv.holds;
-        opens = record { chosen = λ _ above k r select. chooses k r select };
+        opens = record { chosen = λ _ above. chooses };
       }
 
 -- an accepted open keeps all
@@ -120,8 +93,7 @@ pub open_keeps : (sealed : ℕ → List ℕ → Bool) (fits : ℕ → Bool) (roo
     → Inv machine facts s state → (s' : State) (effect : Effect) (statement : Option Statement) (answer : ℕ) → facts'.Opened s.number s.view
     → open_step sealed fits room s ≡ accepted s' effect statement answer → Keeps facts facts' s state s' effect statement
 open_keeps sealed fits room machine facts facts' s state inv s' effect statement answer opened e =
-    let one = needed (closed s.phase) NotAllowed _ e in
-    let two = needed (all_noted s) TooFew _ one.1 in
-    let three = needed (holds_all s (named s)) NamedReportMissing _ two.1 in
-    as_accepted (λ s' effect statement. Keeps facts facts' s state s' effect statement) three.1
-    (record { in_range = tt; keeps = λ adds. opening_keeps machine facts' s state (inv_adds adds (λ t. t) inv) one.0 two.0 three.0 opened })
+    let is : T (closed s.phase) × T (all_noted s) × T (holds_all s (named s))
+    × (accepted (with_selection s (selects s) (choices s)) renew None (selects s) ≡ accepted s' effect statement answer) = grind arith in
+    as_accepted (Keeps facts facts' s state) is.3
+    (record { in_range = tt; keeps = λ adds. opening_keeps machine facts' s state (inv_adds adds (λ t. t) inv) is.0 is.1 is.2 opened })

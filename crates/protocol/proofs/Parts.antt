@@ -20,19 +20,15 @@ use Rattle.protocol.specs.Votes.{vote}
 
 -- the phases of a member of the view's group that has reported
 abbrev pub serving : Phase → Bool
-serving Working = true
 serving Aside = false
 serving Turning = false
-serving Gathering = true
-serving Closed = true
+serving phase = true
 
 -- the phases after closing
 abbrev pub has_closed : Phase → Bool
 has_closed Working = true
-has_closed Aside = false
-has_closed Turning = false
-has_closed Gathering = false
 has_closed Closed = true
+has_closed phase = false
 
 -- lengths and limits
 pub record Shape (s : State) : Type 0 where

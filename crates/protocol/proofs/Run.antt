@@ -2,6 +2,7 @@
 use Rattle.std.proofs.Common.{◌≡◌, ℕ, min, Bool, true, false, cond, not, ◌||◌, T, List, [], ◌∷◌, ◌++◌, length, set, Some, None, Ok, Err, Option, Result, sym, refl, ap, ◌∙◌, subst, arith}
 use Rattle.std.specs.List.{slice_get}
 use Rattle.std.specs.Option.{option_map}
+use Rattle.std.proofs.lemmas.Option.{none-some}
 use Rattle.wire.specs.declared.config.ClusterConfig.{ClusterConfig}
 use Rattle.wire.specs.Statements.{Statement}
 use Rattle.protocol.specs.declared.fault.ReplicaFault.{ReplicaFault}
@@ -16,7 +17,6 @@ use Rattle.protocol.specs.Verdicts.{answer_of, state_after, machine_after, seale
 use Rattle.protocol.proofs.Grow.{Adds, InRange, Keeps, inv_adds}
 use Rattle.protocol.proofs.History.{Leaves, IsCall, among_more, among_new}
 use Rattle.protocol.proofs.Known.{made_kept, made_by_others}
-use Rattle.protocol.proofs.Lists.{none_some}
 use Rattle.protocol.proofs.Stepping.{SamePlace, step_same, step_leaves, step_keeps}
 use Rattle.protocol.proofs.Clusters.{Kept, still_kept, shows, adding, moved_kept}
 use Rattle.protocol.proofs.Starting.{new_kept}
@@ -94,7 +94,7 @@ module _ (config : ClusterConfig) (machine : RequestMachine) (byzantine : ℕ �
           → Kept config machine byzantine (ds ++ record { event = call at room act; was = caller machine c (call at room act); gave = answer } ∷ []) d
       go None found =
           still_kept config machine byzantine ds c kept _ d (happens.nodes ∙ ap (λ p. (called machine c at room act p).nodes) found)
-          (λ h act' s a is. none_some s (sym (ap (option_map (λ node. node.state)) found) ∙ ap (λ (x : Deed). x.was) is.1))
+          (λ h act' s a is. none-some s (sym (ap (option_map (λ node. node.state)) found) ∙ ap (λ (x : Deed). x.was) is.1))
           (λ g st. subst (λ (f : ℕ → List ℕ → Bool). Made config f g st) (sym (happens.sealed ∙ ap (λ p. (called machine c at room act p).sealed) found)))
           (λ g honest st. subst (λ (f : ℕ → List ℕ → Bool). Made config f g st) (happens.sealed ∙ ap (λ p. (called machine c at room act p).sealed) found))
       go (Some node) found =

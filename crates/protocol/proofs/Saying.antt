@@ -8,7 +8,7 @@ use Rattle.protocol.specs.Steps.{Verdict, refused, accepted}
 use Rattle.protocol.specs.Verdicts.{sealed_after, added}
 use Rattle.protocol.proofs.Grow.{InRange}
 use Rattle.protocol.proofs.Known.{made_kept, made_by_others, made_new, made_after}
-use Rattle.protocol.proofs.Lists.{none_some}
+use Rattle.std.proofs.lemmas.Option.{none-some}
 
 -- the statement that a verdict seals
 abbrev pub statement_of : Verdict → Option Statement
@@ -35,7 +35,7 @@ module _ (config : ClusterConfig) (sealed : ℕ → List ℕ → Bool) (h : ℕ)
   said_by_others (Some new) g st apart made = made_by_others config sealed h (message h new) g st apart made
 
   pub said_new : (statement : Option Statement) → InRange config h statement → (st : Statement) → statement ≡ Some st → Made config (sealed_said sealed h statement) h st
-  said_new None range st e = absurd (none_some st e)
+  said_new None range st e = absurd (none-some st e)
   said_new (Some new) range st e = let is : new ≡ st = cc in rw (← is) (made_new config sealed h new range)
 
   pub said_only : (statement : Option Statement) → InRange config h statement → (st : Statement) → Made config (sealed_said sealed h statement) h st

@@ -19,9 +19,9 @@ use Rattle.protocol.specs.Replay.{RequestMachine}
 use Rattle.protocol.specs.Rules.{nothing}
 use Rattle.protocol.specs.Runs.{Node, Cluster, new_node, New}
 use Rattle.protocol.specs.States.{blank, blank_entry, most_replicas, new_state}
-use Rattle.protocol.proofs.Lists.{element_at}
+use Rattle.std.proofs.lemmas.Option.{slice_get_within, get_or_from_slice_get}
 use Rattle.protocol.proofs.Parts.{serving, Inv}
-use Rattle.protocol.proofs.Turning.{none_held, none_noted}
+use Rattle.protocol.proofs.Idle.{none_held, none_noted}
 use Rattle.protocol.proofs.Clusters.{Kept}
 
 module _ (config : ClusterConfig) (machine : RequestMachine) (byzantine : ℕ → Bool) where
@@ -99,6 +99,9 @@ module _ (config : ClusterConfig) (machine : RequestMachine) (byzantine : ℕ �
       is_new : (h : ℕ) (node : Node machine.State) → slice_get first.nodes h ≡ Some node → (h < replicas config) × (node ≡ new_node machine config h)
       is_new h node e =
           let first_node = new_node machine config h in
-          let (below, at) = element_at (map (new_node machine config) (range_with_len 0 (replicas config))) h node first_node (sym (ap (λ ns. slice_get ns h) new.nodes) ∙ e) in
+          let nodes = map (new_node machine config) (range_with_len 0 (replicas config)) in
+          let found : slice_get nodes h ≡ Some node = sym (ap (λ ns. slice_get ns h) new.nodes) ∙ e in
+          let below = slice_get_within nodes h node found in
+          let at = get_or_from_slice_get nodes h node first_node found in
           let inside : h < replicas config = omega (arith, length-map-range_with_len (new_node machine config) 0 (replicas config)) in
           (inside, sym at ∙ get_or-map-range_with_len (new_node machine config) 0 (replicas config) h h first_node inside (omega arith))

@@ -141,27 +141,18 @@ module _ (machine : RequestMachine) (facts facts' : Facts machine) (sealed : ℕ
 
   pub step_leaves : (outcome : Request → ℕ) (act : Act) → step sealed fits room outcome s act ≡ accepted s' effect statement answer
       → Leaves s.config machine facts' s.number s act answer
-  step_leaves outcome (orders r) e = tt
-  step_leaves outcome repeats e = tt
-  step_leaves outcome (hears bytes) e = tt
   step_leaves outcome carries_out e = carries_leaves outcome e
-  step_leaves outcome doubts e = tt
-  step_leaves outcome reports e = tt
   step_leaves outcome closes e = closes_leaves e
   step_leaves outcome opens e = opens_leaves e
+  step_leaves outcome act e = tt
 
 -- ---- what a call keeps
 
 -- what the history then shows of the call
 abbrev pub Shows : {machine : RequestMachine} → Facts machine → State → Act → Type 0
-Shows facts s (orders r) = Unit {0}
-Shows facts s repeats = Unit {0}
-Shows facts s (hears bytes) = Unit {0}
-Shows facts s carries_out = Unit {0}
-Shows facts s doubts = Unit {0}
-Shows facts s reports = Unit {0}
 Shows facts s closes = facts.Closed s.number s.view (holds s)
 Shows facts s opens = facts.Opened s.number s.view
+Shows facts s act = Unit {0}
 
 module _ (machine : RequestMachine) (facts facts' : Facts machine) (sealed : ℕ → List ℕ → Bool) (fits : ℕ → Bool) (room : ℕ) (s : State) (state : machine.State)
     (inv : Inv machine facts s state) (knows : (x : ℕ) (st : Statement) → Made s.config sealed x st → facts.Known x st)

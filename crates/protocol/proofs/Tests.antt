@@ -1,6 +1,7 @@
 -- What passed tests say: the checks of an accepted call, tests of all or some replicas, and equal requests.
 use Rattle.std.proofs.Common.{◌≡◌, ℕ, zero, suc, ◌<◌, ◌≤◌, Bool, true, false, not, ◌&&◌, ◌||◌, T, eqb, leb, ◌⊎◌, List, [], ◌∷◌, Some, Option, refl, subst, inl, inr, ⊎_elim, not-suc-le-zero, arith, eqb→eq}
 use Rattle.std.proofs.lemmas.Bool.{cases_lt}
+use Rattle.std.proofs.lemmas.Bool.Decides.{nat_tests}
 use Rattle.wire.specs.declared.request.Request.{Request}
 use Rattle.wire.specs.Statements.{Statement}
 use Rattle.wire.proofs.Building.{request_is}
@@ -74,34 +75,20 @@ sealing sealed fits room says to does gives e =
 
 pub every_at : (hs : List ℕ) (passes : ℕ → Bool) → T (every hs passes) → (h : ℕ) → T (among hs h) → T (passes h)
 every_at [] passes t h m = absurd m
-every_at (g ∷ hs) passes t h m =
-    let both = each_passes (passes g) (every hs passes) t in
-    ⊎_elim (λ same. subst (λ (x : ℕ). T (passes x)) (eqb→eq g h same) both.0) (λ m. every_at hs passes both.1 h m) (one_passes (eqb g h) (among hs h) m)
+every_at (g ∷ hs) passes t h m = grind (arith, nat_tests, every_at hs passes)
 
 pub last_or_below : (k n : ℕ) → k < suc n → (k ≡ n) ⊎ (k < n)
-last_or_below k n l = ⊎_elim (λ (below : k < n). inr below) (λ (over : n ≤ k). inl (omega arith)) (cases_lt k n)
+last_or_below k n l = grind arith
 
 pub all_at : (n : ℕ) (passes : ℕ → Bool) → T (all_below n passes) → (k : ℕ) → k < n → T (passes k)
 all_at zero passes t k l = absurd (not-suc-le-zero l)
-all_at (suc n) passes t k l =
-    let both = each_passes (passes n) (all_below n passes) t in
-    ⊎_elim (λ (last : k ≡ n). rw last both.0) (λ below. all_at n passes both.1 k below) (last_or_below k n l)
+all_at (suc n) passes t k l = grind (arith, all_at n passes)
 
 pub any_in : (n : ℕ) (passes : ℕ → Bool) (k : ℕ) → k < n → T (passes k) → T (any_below n passes)
 any_in zero passes k l t = absurd (not-suc-le-zero l)
-any_in (suc n) passes k l t =
-    ⊎_elim (λ last. or_left (passes n) (any_below n passes) (subst (λ (i : ℕ). T (passes i)) last t))
-    (λ below. or_right (passes n) (any_below n passes) (any_in n passes k below t)) (last_or_below k n l)
+any_in (suc n) passes k l t = grind (arith, any_in n passes k)
 
 -- ---- requests
 
 pub same_equal : (a b : Request) → T (same a b) → a ≡ b
-same_equal a b t =
-    let one = each_passes (eqb a.client b.client) (eqb a.stamp b.stamp && eqb a.work b.work) t in
-    let two = each_passes (eqb a.stamp b.stamp) (eqb a.work b.work) one.1 in
-    let client = eqb→eq a.client b.client one.0 in
-    let stamp = eqb→eq a.stamp b.stamp two.0 in
-    let work = eqb→eq a.work b.work two.1 in
-    let left = request_is a in
-    let right = request_is b in
-    cc
+same_equal a b t = grind (arith, nat_tests, request_is a, request_is b)

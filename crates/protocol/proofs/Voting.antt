@@ -1,8 +1,9 @@
 -- Voting for a number (ordering, repeating, hearing a PREPARE) and hearing a COMMIT keep what an honest replica keeps.
-use Rattle.std.proofs.Common.{◌≡◌, ℕ, suc, ◌+◌, ◌-◌, ◌^◌, ◌<◌, Bool, not, ◌&&◌, ◌||◌, T, eqb, ltb, leb, ◌⊎◌, List, get_or, set, Some, Option, sym, refl, ap, ◌∙◌, subst, inl, inr, ⊎_elim, add-one, arith, eqb→eq, ltb→lt, leb→le, length-set, get_or-set_other, get_or-set_same}
+use Rattle.std.proofs.Common.{◌≡◌, ℕ, suc, ◌+◌, ◌-◌, ◌^◌, ◌<◌, ◌≤◌, Bool, not, ◌&&◌, ◌||◌, T, eqb, ltb, leb, ◌⊎◌, List, get_or, set, Some, None, Option, sym, refl, ap, ◌∙◌, subst, inl, inr, ⊎_elim, add-one, arith, eqb→eq, ltb→lt, leb→le, length-set, get_or-set_other, get_or-set_same}
 use native.Mathlib.Nat.{zero-div}
 use lib.Bits.{bit_or}
-use Rattle.std.proofs.lemmas.Bool.{cases_eq}
+use Rattle.std.proofs.lemmas.Bool.Decides.{nat_tests}
+use Rattle.std.proofs.lemmas.Grind.{elements}
 use Rattle.wire.specs.declared.request.Request.{Request}
 use Rattle.wire.specs.Configs.{replicas}
 use Rattle.wire.specs.Counting.{names}
@@ -22,7 +23,7 @@ use Rattle.protocol.specs.Votes.{vote}
 use Rattle.protocol.proofs.Grow.{Adds, Silent, Keeps, silent, is_report, is_closing, is_reply, chosen_grows, executes_grow, replies_grow, logs_grow, reports_grow, closings_grow, holds_grow, opens_grow, inv_adds}
 use Rattle.protocol.proofs.Known.{vote_primary, vote_follower, of_vote, vote_equal, fits_vote, vote_fits}
 use Rattle.protocol.proofs.Masks.{names_more}
-use Rattle.protocol.proofs.Parts.{Votes, Prepares, Inv}
+use Rattle.protocol.proofs.Parts.{Shape, Votes, Prepares, Inv}
 use Rattle.protocol.proofs.Quorum.{each_passes}
 use Rattle.protocol.proofs.Tests.{needed, sealing, as_accepted, last_or_below, one_passes, same_equal}
 
@@ -31,7 +32,7 @@ names_nothing : (g : ℕ) → T (names 0 g) → ⊥
 names_nothing g t = rw (zero-div (2 ^ g)) at t
 
 names_one : (g x : ℕ) → T (names (2 ^ g) x) → g ≡ x
-names_one g x t = ⊎_elim (λ none. absurd (names_nothing x none)) (eqb→eq g x) (one_passes (names 0 x) (eqb g x) (subst T (names_more 0 g x) t))
+names_one g x t = grind (arith, nat_tests, names_more 0 g x, names_nothing x)
 
 -- ---- the next number is prepared and voted for
 
@@ -43,13 +44,6 @@ module _ {machine : RequestMachine} {facts facts' : Facts machine} (s : State) (
     (heard : (g : ℕ) → g < replicas s.config → T (names commits g) → facts'.Known g (commit s.view (suc s.prepared) r)) where
   abbrev requests : List Request
   requests = set s.requests s.prepared r
-
-  old_at : (k : ℕ) → k < s.prepared → get_or requests k blank ≡ prepared_at s k
-  old_at k l = get_or-set_other s.requests s.prepared k r blank (omega arith)
-
-  new_at : (k : ℕ) → k ≡ s.prepared → get_or requests k blank ≡ r
-  new_at k e =
-      ap (λ (i : ℕ). get_or requests i blank) e ∙ get_or-set_same s.requests s.prepared r blank (let long = inv.shape.long_requests in omega arith)
 
   -- a vote that is known now was known, or is this one
   abbrev Which : (v n : ℕ) → Request → Type 0
@@ -65,22 +59,12 @@ module _ {machine : RequestMachine} {facts facts' : Facts machine} (s : State) (
   votes : Votes s.config machine facts' s.number s.view s.phase (s.prepared + 1) requests
   votes =
       record {
-        none_later = λ v n r' k. ⊎_elim (λ old. inv.votes.none_later v n r' old) (λ new. omega (arith, new.0)) (which v n r' k);
-        in_view = λ n r' k. (works, at_place n r' (which s.view n r' k));
-        one_vote = λ v n r₁ r₂ k₁ k₂. one v n r₁ r₂ (which v n r₁ k₁) (which v n r₂ k₂);
+        none_later = λ v n r' k. grind (arith, which v n r' k, inv.votes.none_later v n r');
+        in_view = λ n r' k. (works, grind (arith, elements, which s.view n r' k, inv.votes.in_view n r', inv.shape.long_requests));
+        one_vote = λ v n r₁ r₂ k₁ k₂. grind (arith, which v n r₁ k₁, which v n r₂ k₂, inv.votes.one_vote v n r₁ r₂, inv.votes.in_view n r₁, inv.votes.in_view n r₂);
         chosen = λ v n r' above k. chosen v n r' above (which v n r' k);
       }
     where
-      at_place : (n : ℕ) (r' : Request) → Which s.view n r' → (k : ℕ) × (n ≡ suc k) × (k < s.prepared + 1) × (get_or requests k blank ≡ r')
-      at_place n r' (inl old) = let (k, numbered, l, is) = (inv.votes.in_view n r' old).1 in (k, numbered, omega arith, old_at k l ∙ is)
-      at_place n r' (inr new) = (s.prepared, new.1, omega arith, new_at s.prepared refl ∙ sym new.2)
-
-      one : (v n : ℕ) (r₁ r₂ : Request) → Which v n r₁ → Which v n r₂ → r₁ ≡ r₂
-      one v n r₁ r₂ (inl old) (inl old') = inv.votes.one_vote v n r₁ r₂ old old'
-      one v n r₁ r₂ (inl old) (inr new) = absurd (not_both n r₁ new.1 (rw new.0 at old))
-      one v n r₁ r₂ (inr new) (inl old) = absurd (not_both n r₂ new.1 (rw new.0 at old))
-      one v n r₁ r₂ (inr new) (inr new') = new.2 ∙ sym new'.2
-
       chosen : (v n : ℕ) (r' : Request) → 0 < v → Which v n r' → Chosen s.config machine facts' s.number v n r'
       chosen v n r' above (inl old) = chosen_grows s.config adds.grows (inv.votes.chosen v n r' above old)
       chosen v n r' above (inr new) =
@@ -89,22 +73,9 @@ module _ {machine : RequestMachine} {facts facts' : Facts machine} (s : State) (
   prepares : Prepares s.config machine facts' s.number s.view s.phase (s.prepared + 1) requests (set s.commits_heard s.prepared commits)
   prepares =
       record {
-        led = λ w k l.
-            ⊎_elim (λ last. rw (new_at k last, last) led) (λ before. rw (old_at k before) (adds.grows.known _ _ (inv.prepares.led w k before)))
-            (last_or_below k s.prepared (omega arith));
-        heard = λ w k g l inside t.
-            ⊎_elim (λ last. rw (new_at k last, last) (heard g inside (subst (λ (m : ℕ). T (names m g)) (new_marks k last) t)))
-            (λ before. rw (old_at k before) (adds.grows.known g _ (inv.prepares.heard w k g before inside (subst (λ (m : ℕ). T (names m g)) (old_marks k before) t))))
-            (last_or_below k s.prepared (omega arith));
+        led = λ w k l. grind (arith, elements, led, adds.grows.known, inv.prepares.led w k, inv.shape.long_requests);
+        heard = λ w k g l inside t. grind (arith, elements, heard g inside, adds.grows.known, inv.prepares.heard w k g, inv.shape.long_requests, inv.shape.long_commits);
       }
-    where
-      new_marks : (k : ℕ) → k ≡ s.prepared → get_or (set s.commits_heard s.prepared commits) k 0 ≡ commits
-      new_marks k e =
-          ap (λ (i : ℕ). get_or (set s.commits_heard s.prepared commits) i 0) e
-          ∙ get_or-set_same s.commits_heard s.prepared commits 0 (let long = inv.shape.long_commits in omega arith)
-
-      old_marks : (k : ℕ) → k < s.prepared → get_or (set s.commits_heard s.prepared commits) k 0 ≡ commits_at s k
-      old_marks k l = get_or-set_other s.commits_heard s.prepared k commits 0 (omega arith)
 
   -- a vote is no statement of another kind
   no_other : (kind : Statement → Bool) → ((v n : ℕ) (r : Request) → T (kind (prepare v n r)) → ⊥) → ((v n : ℕ) (r : Request) → T (kind (commit v n r)) → ⊥)
@@ -115,29 +86,16 @@ module _ {machine : RequestMachine} {facts facts' : Facts machine} (s : State) (
 
   voting : Inv machine facts' (with_prepared s r commits) state
   voting =
+      let no_report = no_other is_report (λ v n r t. t) (λ v n r t. t) in
+      let no_reply = no_other is_reply (λ v n r t. t) (λ v n r t. t) in
       record {
-        shape =
-            record {
-              inside = inv.shape.inside;
-              long_requests = length-set s.requests s.prepared r ∙ inv.shape.long_requests;
-              long_log = inv.shape.long_log;
-              long_commits = length-set s.commits_heard s.prepared commits ∙ inv.shape.long_commits;
-              long_reports = inv.shape.long_reports;
-              long_closings = inv.shape.long_closings;
-              few_prepared = omega arith;
-              few_logged = inv.shape.few_logged;
-              executed_logged = inv.shape.executed_logged;
-              low_view = inv.shape.low_view;
-              grouped = inv.shape.grouped;
-            };
+        shape = search (arith, length-set {A = ℕ}, length-set {A = Request}, inv.shape);
         votes = votes;
         prepares = prepares;
         executes = executes_grow s.config adds.grows inv.executes;
-        replies = replies_grow s.config adds.grows (no_other is_reply (λ v n r t. t) (λ v n r t. t)) inv.replies;
+        replies = replies_grow s.config adds.grows no_reply inv.replies;
         logs = logs_grow s.config adds.grows inv.logs;
-        reports =
-            reports_grow s.config adds.grows (no_other is_reply (λ v n r t. t) (λ v n r t. t)) (no_other is_report (λ v n r t. t) (λ v n r t. t))
-            inv.reports;
+        reports = reports_grow s.config adds.grows no_reply no_report inv.reports;
         closings = closings_grow s.config adds.grows (no_other is_closing (λ v n r t. t) (λ v n r t. t)) inv.closings;
         holds = holds_grow s.config adds.grows inv.holds;
         opens = opens_grow s.config adds.grows inv.opens;
@@ -148,44 +106,11 @@ module _ {machine : RequestMachine} {facts facts' : Facts machine} (s : State) (
 hearing : {machine : RequestMachine} {facts : Facts machine} (s : State) (state : machine.State) → Inv machine facts s state → (k commits : ℕ) → k < s.prepared
     → ((g : ℕ) → T (names commits g) → T (names (commits_at s k) g) ⊎ facts.Known g (commit s.view (suc k) (prepared_at s k)))
     → Inv machine facts (with_commits s k commits) state
-hearing {facts = facts} s state inv k commits below heard =
-    record {
-      shape =
-          record {
-            inside = inv.shape.inside;
-            long_requests = inv.shape.long_requests;
-            long_log = inv.shape.long_log;
-            long_commits = length-set s.commits_heard k commits ∙ inv.shape.long_commits;
-            long_reports = inv.shape.long_reports;
-            long_closings = inv.shape.long_closings;
-            few_prepared = inv.shape.few_prepared;
-            few_logged = inv.shape.few_logged;
-            executed_logged = inv.shape.executed_logged;
-            low_view = inv.shape.low_view;
-            grouped = inv.shape.grouped;
-          };
-      votes = inv.votes;
-      prepares = record { led = inv.prepares.led; heard = all_heard };
-      executes = inv.executes;
-      replies = inv.replies;
-      logs = inv.logs;
-      reports = inv.reports;
-      closings = inv.closings;
-      holds = inv.holds;
-      opens = inv.opens;
-    }
-  where
-    all_heard : T (working s.phase) → (i g : ℕ) → i < s.prepared → g < replicas s.config → T (names (get_or (set s.commits_heard k commits) i 0) g)
-        → facts.Known g (commit s.view (suc i) (prepared_at s i))
-    all_heard w i g l inside t = ⊎_elim here there (cases_eq i k)
-      where
-        here : i ≡ k → facts.Known g (commit s.view (suc i) (prepared_at s i))
-        here e =
-            let same = get_or-set_same s.commits_heard k commits 0 (let long = inv.shape.long_commits in let few = inv.shape.few_prepared in omega arith) in
-            rw e (⊎_elim (λ old. inv.prepares.heard w k g below inside old) (λ new. new) (heard g (rw (e, same) at t)))
-
-        there : (i ≡ k → ⊥) → facts.Known g (commit s.view (suc i) (prepared_at s i))
-        there ne = inv.prepares.heard w i g l inside (rw (get_or-set_other s.commits_heard k i commits 0 ne) at t)
+hearing {machine} {facts} s state inv k commits below heard =
+    let shape : Shape (with_commits s k commits) = search (arith, length-set {A = ℕ}, inv.shape) in
+    let prepares : Prepares s.config machine facts s.number s.view s.phase s.prepared s.requests (set s.commits_heard k commits) =
+    record { led = inv.prepares.led; heard = λ w i g l inside t. grind (arith, elements, heard g, inv.prepares.heard w i g l inside, inv.shape.long_commits) } in
+    assumption
 
 -- ---- accepted calls
 
@@ -211,51 +136,39 @@ module _ (sealed : ℕ → List ℕ → Bool) (fits : ℕ → Bool) (room : ℕ)
   lead_keeps : T (working s.phase) → T (leads s) → s.prepared < last_number → (r : Request) → (s.prepared < s.selected → r ≡ selected_at s s.prepared)
       → Kept (with_prepared s r 0) rest (Some (prepare s.view (s.prepared + 1) r))
   lead_keeps works leading below r selected =
-      vote_keeps works below r 0 selected (prepare s.view (s.prepared + 1) r)
-      (rw (add-one s.prepared) (sym (vote_primary s.config s.view s.number (suc s.prepared) r leading)))
+      vote_keeps works below r 0 selected (prepare s.view (s.prepared + 1) r) (grind arith)
       (λ adds. rw (← eqb→eq s.number (primary s.config s.view) leading, ← add-one s.prepared) (adds.new _ refl))
       (λ adds g inside t. absurd (names_nothing g t))
 
   module _ (s' : State) (effect : Effect) (statement : Option Statement) (answer : ℕ) where
     pub order_keeps : (r : Request) → order_step sealed fits room s r ≡ accepted s' effect statement answer → Kept s' effect statement
     order_keeps r e =
-        let e1 = needed (working s.phase && leads s) NotAllowed _ e in
-        let e2 = needed (leb s.selected s.prepared) OutOfTurn _ e1.1 in
-        let e3 = needed (ltb s.prepared last_number) NoneLeft _ e2.1 in
-        let (works, leading) = each_passes (working s.phase) (leads s) e1.0 in
-        let past = leb→le s.selected s.prepared e2.0 in
-        as_accepted Kept (sealing sealed fits room (prepare s.view (s.prepared + 1) r) (with_prepared s r 0) rest (s.prepared + 1) e3.1)
-        (lead_keeps works leading (ltb→lt s.prepared last_number e3.0) r (λ l. absurd (omega arith)))
+        let is : T (working s.phase) × T (leads s) × (s.selected ≤ s.prepared) × (s.prepared < last_number)
+        × (accepted (with_prepared s r 0) rest (Some (prepare s.view (s.prepared + 1) r)) (s.prepared + 1) ≡ accepted s' effect statement answer) =
+        grind (arith, nat_tests) in
+        as_accepted Kept is.4 (lead_keeps is.0 is.1 is.3 r (λ l. absurd (omega arith)))
 
     pub repeat_keeps : repeat_step sealed fits room s ≡ accepted s' effect statement answer → Kept s' effect statement
     repeat_keeps e =
         let r = selected_at s s.prepared in
-        let e1 = needed (working s.phase && leads s) NotAllowed _ e in
-        let e2 = needed (ltb s.prepared s.selected) OutOfTurn _ e1.1 in
-        let e3 = needed (ltb s.prepared last_number) NoneLeft _ e2.1 in
-        let (works, leading) = each_passes (working s.phase) (leads s) e1.0 in
-        as_accepted Kept (sealing sealed fits room (prepare s.view (s.prepared + 1) r) (with_prepared s r 0) rest (s.prepared + 1) e3.1)
-        (lead_keeps works leading (ltb→lt s.prepared last_number e3.0) r (λ l. refl))
+        let is : T (working s.phase) × T (leads s) × (s.prepared < last_number)
+        × (accepted (with_prepared s r 0) rest (Some (prepare s.view (s.prepared + 1) r)) (s.prepared + 1) ≡ accepted s' effect statement answer) =
+        grind (arith, nat_tests) in
+        as_accepted Kept is.3 (lead_keeps is.0 is.1 is.2 r (λ l. refl))
 
     pub hear_prepare_keeps : (knows : (x : ℕ) (st : Statement) → Made s.config sealed x st → facts.Known x st) (g view number : ℕ) (r : Request) → view ≡ s.view
         → Made s.config sealed g (prepare view number r) → T (allows s (prepare view number r)) → T (entitles s g (prepare view number r))
         → hear_prepare sealed fits room s number r ≡ accepted s' effect statement answer → Kept s' effect statement
     hear_prepare_keeps knows g view number r same_view made allowed entitled e =
-        let e1 = needed (eqb number (s.prepared + 1)) OutOfTurn _ e in
-        let e2 = needed (leb s.selected s.prepared || same r (selected_at s s.prepared)) OtherRequest _ e1.1 in
-        let next = eqb→eq number (s.prepared + 1) e1.0 in
-        let (works, follows) = each_passes (working s.phase) (follower s.config s.view s.number) allowed in
-        let not_leading = (each_passes (member s.config s.view s.number) (not (leads s)) follows).1 in
-        let numbered : number ≡ suc s.prepared = omega arith in
-        let its_vote : commit s.view number r ≡ vote s.config s.view s.number (suc s.prepared) r =
-        rw numbered (sym (vote_follower s.config s.view s.number (suc s.prepared) r not_leading)) in
-        let in_range = vote_fits s.config g view number r (rw (vote_primary s.config view g number r (rw same_view entitled)) made.0) in
+        let says = commit s.view number r in
+        let is : (number ≡ suc s.prepared) × (s.prepared < s.selected → r ≡ selected_at s s.prepared)
+        × (accepted (with_prepared s r (2 ^ s.number)) rest (Some says) (size says) ≡ accepted s' effect statement answer) =
+        grind (arith, nat_tests, same_equal r (selected_at s s.prepared)) in
+        let numbered = is.0 in
+        let in_range : number ≤ last_number = grind (arith, nat_tests, made.0) in
         let from = eqb→eq g (primary s.config s.view) entitled in
-        as_accepted Kept (sealing sealed fits room (commit s.view number r) (with_prepared s r (2 ^ s.number)) rest (size (commit s.view number r)) e2.1)
-        (vote_keeps works (omega arith) r (2 ^ s.number)
-        (λ l. ⊎_elim (λ past. absurd (omega (arith, leb→le s.selected s.prepared past))) (λ alike. same_equal r (selected_at s s.prepared) alike)
-        (one_passes (leb s.selected s.prepared) (same r (selected_at s s.prepared)) e2.0))
-        (commit s.view number r) its_vote
+        as_accepted Kept is.2
+        (vote_keeps (grind arith) (omega arith) r (2 ^ s.number) is.1 says (grind arith)
         (λ adds. rw (← from, ← same_view, ← numbered) (adds.grows.known g _ (knows g _ made)))
         (λ adds x inside t. rw (← names_one s.number x t, ← numbered) (adds.new _ refl)))
 
@@ -263,21 +176,16 @@ module _ (sealed : ℕ → List ℕ → Bool) (fits : ℕ → Bool) (room : ℕ)
         → Made s.config sealed g (commit view number r) → T (allows s (commit view number r)) → T (entitles s g (commit view number r))
         → hear_commit sealed fits room s g number r ≡ accepted s' effect statement answer → Kept s' effect statement
     hear_commit_keeps knows g view number r same_view made allowed entitled e =
-        let e1 = needed (leb number s.prepared) OutOfTurn _ e in
-        let e2 = needed (same r (prepared_at s (number - 1))) OtherRequest _ e1.1 in
-        let e3 = needed (not (names (commits_at s (number - 1)) g)) HeardBefore _ e2.1 in
-        let follows = (each_passes (follower s.config s.view g) (not (eqb g s.number)) entitled).0 in
-        let not_leading = (each_passes (member s.config s.view g) (not (eqb g (primary s.config s.view))) follows).1 in
-        let in_range = vote_fits s.config g view number r (rw (vote_follower s.config view g number r (rw same_view not_leading)) made.0) in
-        let numbered : number ≡ suc (number - 1) = omega arith in
-        let alike = same_equal r (prepared_at s (number - 1)) e2.0 in
-        let below = leb→le number s.prepared e1.0 in
-        as_accepted Kept e3.1
+        let commits = bit_or (commits_at s (number - 1)) (2 ^ g) in
+        let is : (number ≤ s.prepared) × (r ≡ prepared_at s (number - 1))
+        × (accepted (with_commits s (number - 1) commits) rest None 0 ≡ accepted s' effect statement answer) =
+        grind (arith, nat_tests, same_equal r (prepared_at s (number - 1))) in
+        let numbered : number ≡ suc (number - 1) = grind (arith, nat_tests, made.0) in
+        let told = knows g _ made in
+        as_accepted Kept is.2
         (record {
           in_range = tt;
           keeps = λ adds.
-              hearing s state (inv_adds adds (λ t. t) inv) (number - 1) (bit_or (commits_at s (number - 1)) (2 ^ g)) (omega arith)
-              (λ x t.
-              ⊎_elim inl (λ new. inr (rw (← eqb→eq g x new, ← numbered, ← same_view, ← alike) (adds.grows.known g _ (knows g _ made))))
-              (one_passes (names (commits_at s (number - 1)) x) (eqb g x) (rw (names_more (commits_at s (number - 1)) g x) at t)));
+              hearing s state (inv_adds adds (λ t. t) inv) (number - 1) commits (omega arith)
+              (λ x t. grind (arith, nat_tests, names_more (commits_at s (number - 1)) g x, adds.grows.known g _ told));
         })

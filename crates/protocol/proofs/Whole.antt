@@ -1,7 +1,7 @@
 -- Agreement: every run keeps what gives the rules of its honest replicas, and the rules give agreement.
 use Rattle.std.proofs.Common.{◌≡◌, ℕ, suc, ◌≤◌, Bool, T, List, length, get_or, sym, ap, ◌∙◌, subst, arith}
 use Rattle.std.specs.List.{slice_get}
-use Rattle.std.proofs.lemmas.Option.{slice_get-get_or}
+use Rattle.std.proofs.lemmas.Option.{slice_get-get_or, same_Some}
 use Rattle.wire.specs.declared.config.ClusterConfig.{ClusterConfig}
 use Rattle.wire.specs.declared.entry.LogEntry.{LogEntry}
 use Rattle.groups.proofs.Quorum.{sized}
@@ -14,7 +14,7 @@ use Rattle.protocol.specs.Runs.{Cluster, Deed, new_node}
 use Rattle.protocol.specs.States.{working, entries}
 use Rattle.protocol.proofs.Agree.{rules_agree}
 use Rattle.protocol.proofs.History.{Past}
-use Rattle.protocol.proofs.Lists.{some_equal, has_entry, entry_placed}
+use Rattle.protocol.proofs.Lists.{has_entry, entry_placed}
 use Rattle.protocol.proofs.Parts.{Inv}
 use Rattle.protocol.proofs.Clusters.{Kept}
 use Rattle.protocol.proofs.Run.{run_kept}
@@ -66,7 +66,7 @@ module _ (config : ClusterConfig) (machine : RequestMachine) (byzantine : ℕ �
       (rw (numbered, configured) (kept.past h honest.honest))
       (ap (λ n. log_of (slice_get c.nodes n)) numbered ∙ ap log_of found)
       (λ view executed now w.
-      let same = some_equal node w.node (sym found ∙ ap (slice_get c.nodes) (sym numbered) ∙ w.placed) in
+      let same = same_Some node w.node (sym found ∙ ap (slice_get c.nodes) (sym numbered) ∙ w.placed) in
       (rw same w.works, rw same w.in_view, rw same w.so_many, rw same w.its_machine))))
 
 pub agreement : (machine : RequestMachine) → Agreement machine

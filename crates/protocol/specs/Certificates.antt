@@ -1,5 +1,5 @@
 -- Which votes certify a request, and what the register knows of them.
-use Rattle.std.specs.Prelude.{ℕ, suc, Bool, true, cond, ◌&&◌, List, [], ◌∷◌, Some, None, Option}
+use Rattle.std.specs.Prelude.{ℕ, suc, Bool, true, ◌&&◌, List, [], ◌∷◌, Some, None, Option, if◌then◌else◌}
 use Rattle.wire.specs.declared.config.ClusterConfig.{ClusterConfig}
 use Rattle.wire.specs.declared.entry.LogEntry.{LogEntry}
 use Rattle.wire.specs.declared.request.Request.{Request}
@@ -30,4 +30,4 @@ certified config sealed view number r = every (group config view) (λ h. known s
 abbrev pub uncertified : ClusterConfig → (sealed : ℕ → List ℕ → Bool) → (number : ℕ) → List LogEntry → Option ℕ
 uncertified config sealed number [] = None
 uncertified config sealed number (e ∷ es) =
-    cond (certified config sealed e.view number e.request) (uncertified config sealed (suc number) es) (Some number)
+    if certified config sealed e.view number e.request then uncertified config sealed (suc number) es else Some number

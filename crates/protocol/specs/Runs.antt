@@ -1,5 +1,5 @@
 -- A cluster, what an event does to it, and the runs that lists of events make.
-use Rattle.std.specs.Prelude.{◌≡◌, ℕ, ◌^◌, ◌<◌, min, Bool, false, cond, ◌||◌, List, [], ◌∷◌, ◌++◌, map, length, Some, None, Ok, Err, Option, Result, slice_set}
+use Rattle.std.specs.Prelude.{◌≡◌, ℕ, ◌^◌, ◌<◌, min, Bool, false, ◌||◌, List, [], ◌∷◌, ◌++◌, map, length, Some, None, Ok, Err, Option, Result, slice_set, if◌then◌else◌}
 use Rattle.std.specs.List.{slice_get, range_with_len}
 use Rattle.std.specs.Option.{option_map}
 use Rattle.wire.specs.declared.config.ClusterConfig.{ClusterConfig}
@@ -42,14 +42,8 @@ pub record Next (Σ : Type 0) : Type 0 where
 
 -- what is heard consists of bytes
 abbrev pub HeardBytes : Act → Type 0
-HeardBytes (orders r) = Unit {0}
-HeardBytes repeats = Unit {0}
 HeardBytes (hears bytes) = Bytes bytes
-HeardBytes carries_out = Unit {0}
-HeardBytes doubts = Unit {0}
-HeardBytes reports = Unit {0}
-HeardBytes closes = Unit {0}
-HeardBytes opens = Unit {0}
+HeardBytes act = Unit {0}
 
 abbrev pub Sayable : Event → Type 0
 Sayable (call at room act) = HeardBytes act
@@ -93,9 +87,9 @@ module _ (machine : RequestMachine) where
   does c (call at room act) = called c at room act (slice_get c.nodes at)
   does c (byzantine_seal h bytes) =
       record {
-        answer = cond (c.sealed h bytes || c.fits (length bytes)) (Ok 0) (Err (Register Full));
+        answer = if c.sealed h bytes || c.fits (length bytes) then Ok 0 else Err (Register Full);
         nodes = c.nodes;
-        sealed = cond (c.sealed h bytes || c.fits (length bytes)) (added c.sealed h bytes) c.sealed;
+        sealed = if c.sealed h bytes || c.fits (length bytes) then added c.sealed h bytes else c.sealed;
         out = c.out;
         new = adds c.sealed c.fits h bytes;
       }

@@ -1,5 +1,5 @@
 -- What a replica selects at opening: from the reports that the noted closings name, for each number the request with the highest entry view.
-use Rattle.std.specs.Prelude.{ℕ, zero, suc, ◌^◌, max, Bool, false, cond, not, ◌||◌, List, map, length, is_some, Some, None, Option, bit_or, nat_lt, slice_index_or}
+use Rattle.std.specs.Prelude.{ℕ, zero, suc, ◌^◌, max, Bool, false, not, ◌||◌, List, map, length, is_some, Some, None, Option, bit_or, nat_lt, slice_index_or, if◌then◌else◌}
 use Rattle.std.specs.List.{range_with_len}
 use Rattle.wire.specs.declared.entry.LogEntry.{LogEntry}
 use Rattle.wire.specs.declared.request.Request.{Request}
@@ -18,7 +18,7 @@ any_below (suc n) passes = passes n || any_below n passes
 -- the mask of the numbers below n that pass the test
 abbrev pub mask_of : ℕ → (ℕ → Bool) → ℕ
 mask_of zero passes = 0
-mask_of (suc n) passes = cond (passes n) (bit_or (mask_of n passes) (2 ^ n)) (mask_of n passes)
+mask_of (suc n) passes = if passes n then bit_or (mask_of n passes) (2 ^ n) else mask_of n passes
 
 -- how many replicas there are in the cluster of a replica
 abbrev pub peers : State → ℕ
@@ -46,7 +46,7 @@ named s h = any_below (peers s) (λ g. mask_names (noted s g) h)
 
 -- the report of a replica that counts
 abbrev pub counts : State → ℕ → Option (List LogEntry)
-counts s h = cond (named s h) (held s h) None
+counts s h = if named s h then held s h else None
 
 abbrev pub length_of : Option (List LogEntry) → ℕ
 length_of None = 0
@@ -55,7 +55,7 @@ length_of (Some es) = length es
 -- the entry after the first k of a report
 abbrev pub entry_at : Option (List LogEntry) → ℕ → Option LogEntry
 entry_at None k = None
-entry_at (Some es) k = cond (nat_lt k (length es)) (Some (slice_index_or es k blank_entry)) None
+entry_at (Some es) k = if nat_lt k (length es) then Some (slice_index_or es k blank_entry) else None
 
 -- the largest value of the numbers below n
 abbrev pub longest : ℕ → (ℕ → ℕ) → ℕ
@@ -66,7 +66,7 @@ longest (suc n) f = max (longest n f) (f n)
 abbrev pub later : Option LogEntry → Option LogEntry → Option LogEntry
 later None other = other
 later (Some e) None = Some e
-later (Some e) (Some other) = cond (nat_lt e.view other.view) (Some other) (Some e)
+later (Some e) (Some other) = if nat_lt e.view other.view then Some other else Some e
 
 -- the entry with the highest view of the numbers below n, of equals the one of the lowest number
 abbrev pub latest : ℕ → (ℕ → Option LogEntry) → Option LogEntry

@@ -1,5 +1,5 @@
 -- The state of a replica: its parts, a new one, and each change that a call makes to one.
-use Rattle.std.specs.Prelude.{ℕ, ◌+◌, ◌-◌, max, Bool, true, false, cond, List, ◌++◌, length, take, replicate, Some, None, Ok, Err, Option, Result, ◌==◌, nat_lt, slice_index, slice_index_or, slice_set}
+use Rattle.std.specs.Prelude.{ℕ, ◌+◌, ◌-◌, max, Bool, true, false, List, ◌++◌, length, take, replicate, Some, None, Ok, Err, Option, Result, ◌==◌, nat_lt, slice_index, slice_index_or, slice_set, if◌then◌else◌}
 use Rattle.wire.specs.declared.config.ClusterConfig.{ClusterConfig}
 use Rattle.wire.specs.declared.entry.LogEntry.{LogEntry}
 use Rattle.wire.specs.declared.fault.ReadFault.TheVariants.{Setting}
@@ -19,31 +19,19 @@ use Rattle.protocol.specs.declared.state.State.{State}
 
 abbrev pub working : Phase → Bool
 working Working = true
-working Aside = false
-working Turning = false
-working Gathering = false
-working Closed = false
+working phase = false
 
 abbrev pub turning : Phase → Bool
-turning Working = false
-turning Aside = false
 turning Turning = true
-turning Gathering = false
-turning Closed = false
+turning phase = false
 
 abbrev pub gathering : Phase → Bool
-gathering Working = false
-gathering Aside = false
-gathering Turning = false
 gathering Gathering = true
-gathering Closed = false
+gathering phase = false
 
 abbrev pub closed : Phase → Bool
-closed Working = false
-closed Aside = false
-closed Turning = false
-closed Gathering = false
 closed Closed = true
+closed phase = false
 
 -- ---- a new replica
 
@@ -66,7 +54,7 @@ new_state config number =
       config = config;
       number = number;
       view = 0;
-      phase = cond (member config 0 number) Working Aside;
+      phase = if member config 0 number then Working else Aside;
       prepared = 0;
       executed = 0;
       selected = 0;
@@ -81,7 +69,7 @@ new_state config number =
 
 -- setting a replica up: its number is one of the cluster's
 abbrev pub set_up : ClusterConfig → (number : ℕ) → Result State ReplicaFault
-set_up config number = cond (nat_lt number (replicas config)) (Ok (new_state config number)) (Err (Read Setting))
+set_up config number = if nat_lt number (replicas config) then Ok (new_state config number) else Err (Read Setting)
 
 -- ---- parts
 
@@ -130,82 +118,24 @@ noted s h = slice_index_or s.closings h None
 -- the next number is prepared, with these commits heard for it
 abbrev pub with_prepared : State → Request → (commits : ℕ) → State
 with_prepared s r commits =
-    record {
-      config = s.config;
-      number = s.number;
-      view = s.view;
-      phase = s.phase;
-      prepared = s.prepared + 1;
-      executed = s.executed;
-      selected = s.selected;
-      logged = s.logged;
-      requests = slice_set s.requests s.prepared r;
-      selection = s.selection;
-      log = s.log;
-      commits_heard = slice_set s.commits_heard s.prepared commits;
-      reports = s.reports;
-      closings = s.closings;
-    }
+    record s { prepared = s.prepared + 1; requests = slice_set s.requests s.prepared r; commits_heard = slice_set s.commits_heard s.prepared commits }
 
 -- these commits are heard for the number after k
 abbrev pub with_commits : State → (k commits : ℕ) → State
-with_commits s k commits =
-    record {
-      config = s.config;
-      number = s.number;
-      view = s.view;
-      phase = s.phase;
-      prepared = s.prepared;
-      executed = s.executed;
-      selected = s.selected;
-      logged = s.logged;
-      requests = s.requests;
-      selection = s.selection;
-      log = s.log;
-      commits_heard = slice_set s.commits_heard k commits;
-      reports = s.reports;
-      closings = s.closings;
-    }
+with_commits s k commits = record s { commits_heard = slice_set s.commits_heard k commits }
 
 -- the next number is carried out and entered in the log
 abbrev pub with_executed : State → State
 with_executed s =
-    record {
-      config = s.config;
-      number = s.number;
-      view = s.view;
-      phase = s.phase;
-      prepared = s.prepared;
+    record s {
       executed = s.executed + 1;
-      selected = s.selected;
       logged = max s.logged (s.executed + 1);
-      requests = s.requests;
-      selection = s.selection;
       log = slice_set s.log s.executed (record { view = s.view; request = next_request s });
-      commits_heard = s.commits_heard;
-      reports = s.reports;
-      closings = s.closings;
     }
 
 -- another view, phase, reports and closings
 abbrev pub changed_to : State → (view : ℕ) → Phase → List (Option HeldReport) → List (Option ℕ) → State
-changed_to s view phase reports closings =
-    record {
-      config = s.config;
-      number = s.number;
-      view = view;
-      phase = phase;
-      prepared = s.prepared;
-      executed = s.executed;
-      selected = s.selected;
-      logged = s.logged;
-      requests = s.requests;
-      selection = s.selection;
-      log = s.log;
-      commits_heard = s.commits_heard;
-      reports = reports;
-      closings = closings;
-    }
+changed_to s view phase reports closings = record s { view = view; phase = phase; reports = reports; closings = closings }
 
 -- turned to the next view
 abbrev pub turned : State → State
@@ -226,26 +156,17 @@ with_closing s phase h mask = changed_to s s.view phase s.reports (slice_set s.c
 -- reported: a member holds its own report and gathers, another steps aside
 abbrev pub reported : State → State
 reported s =
-    cond (active s)
-    (with_report s Gathering s.number (record { len = s.logged; entries = s.log }))
-    (changed_to s s.view Aside s.reports s.closings)
+    if active s then with_report s Gathering s.number (record { len = s.logged; entries = s.log })
+    else changed_to s s.view Aside s.reports s.closings
 
 -- opened with so many requests selected
 abbrev pub with_selection : State → (selected : ℕ) → List Request → State
 with_selection s selected selection =
-    record {
-      config = s.config;
-      number = s.number;
-      view = s.view;
+    record s {
       phase = Working;
       prepared = 0;
       executed = 0;
       selected = selected;
-      logged = s.logged;
-      requests = s.requests;
       selection = selection;
-      log = s.log;
       commits_heard = replicate last_number 0;
-      reports = s.reports;
-      closings = s.closings;
     }

@@ -1,5 +1,5 @@
 -- The eight calls of a replica: for each the refusal, or the new state, what the machine does, what is sealed and the answer.
-use Rattle.std.specs.Prelude.{ℕ, ◌+◌, ◌-◌, ◌^◌, Bool, false, cond, not, ◌&&◌, ◌||◌, List, is_some, Some, None, Ok, Err, Option, Result, ◌==◌, bit_or, nat_le, nat_lt}
+use Rattle.std.specs.Prelude.{ℕ, ◌+◌, ◌-◌, ◌^◌, Bool, false, not, ◌&&◌, ◌||◌, List, is_some, Some, None, Ok, Err, Option, Result, ◌==◌, bit_or, nat_le, nat_lt, if◌then◌else◌}
 use Rattle.wire.specs.declared.entry.LogEntry.{LogEntry}
 use Rattle.wire.specs.declared.fault.ReadFault.{ReadFault}
 use Rattle.wire.specs.declared.request.Request.{Request}
@@ -31,7 +31,7 @@ pub data Verdict : Type 0 where
 
 -- go on where the test passes, else refuse
 abbrev pub need : Bool → ReplicaFault → Verdict → Verdict
-need passes fault verdict = cond passes verdict (refused fault)
+need passes fault verdict = if passes then verdict else refused fault
 
 -- the same request
 abbrev pub same : Request → Request → Bool

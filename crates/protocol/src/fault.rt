@@ -7,7 +7,7 @@ use refusals::{Layer, Refusal};
 use seals::fault::RegisterFault;
 use wire::fault::ReadFault;
 
-#[derive(Clone, Copy, PartialEq)]
+#[derive(Clone, Copy, PartialEq, Debug)]
 pub enum ReplicaFault {
     // the reader's own fault, or a setting outside its range
     Read(ReadFault),
@@ -55,11 +55,11 @@ impl From<RegisterFault> for ReplicaFault {
     }
 }
 
-impl ReplicaFault {
-    pub fn refusal(&self) -> Refusal
-        ensures { result ≡ refusal_of self.now }
-    {
-        let (number, place) = match *self {
+impl From<ReplicaFault> for Refusal {
+    ghost from_gives = { λ fault r. r ≡ refusal_of fault };
+
+    fn from(fault: ReplicaFault) -> Refusal {
+        let (number, place) = match fault {
             ReplicaFault::Read(fault) => return fault.refusal(),
             ReplicaFault::Register(fault) => return fault.refusal(),
             ReplicaFault::WrongView => (6, 0),

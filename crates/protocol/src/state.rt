@@ -10,7 +10,7 @@ pub const NUMBERS: usize = LAST_NUMBER as usize;
 // The most replicas that a cluster has.
 pub const REPLICAS: usize = 5;
 
-#[derive(Clone, Copy, PartialEq)]
+#[derive(Clone, Copy, PartialEq, Eq, Debug)]
 pub enum Phase {
     // serves its view: prepares, commits and carries out
     Working,
@@ -24,13 +24,14 @@ pub enum Phase {
     Closed,
 }
 
-// A report that is held: its first `len` entries.
+// A report that is held: its first `len` entries. Fixed memory, no heap: an array filled up to a count, no `Vec`.
 #[derive(Clone, Copy)]
 pub struct HeldReport {
     pub len: u8,
     pub entries: [LogEntry; NUMBERS],
 }
 
+// The arrays have their full size from the start, with counts beside them, since a replica keeps its state in fixed memory, with no heap.
 #[derive(Drop)]
 pub struct State {
     pub config: ClusterConfig,
