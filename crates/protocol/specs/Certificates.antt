@@ -1,5 +1,6 @@
 -- Which votes certify a request, and what the register knows of them.
 use Rattle.std.specs.Prelude.{ℕ, suc, Bool, true, ◌&&◌, List, [], ◌∷◌, Some, None, Option, if◌then◌else◌}
+use Rattle.std.specs.List.{list_all}
 use Rattle.wire.specs.declared.config.ClusterConfig.{ClusterConfig}
 use Rattle.wire.specs.declared.entry.LogEntry.{LogEntry}
 use Rattle.wire.specs.declared.request.Request.{Request}
@@ -19,8 +20,7 @@ known sealed h statement = sealed h (message h statement)
 
 -- every replica of the list passes the test
 abbrev pub every : List ℕ → (ℕ → Bool) → Bool
-every [] passes = true
-every (h ∷ hs) passes = passes h && every hs passes
+every hs passes = list_all passes hs
 
 -- the certificate of a request as a number of a view: the votes of the view's whole group
 abbrev pub certified : ClusterConfig → (sealed : ℕ → List ℕ → Bool) → (view number : ℕ) → Request → Bool

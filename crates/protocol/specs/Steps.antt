@@ -74,19 +74,23 @@ module _ (sealed : ℕ → List ℕ → Bool) (fits : ℕ → Bool) (room : ℕ)
       (need (fits (size statement)) (Register Full)
       (accepted s effect (Some statement) answer))
 
+  -- a request is prepared as the next number
+  abbrev pub prepare_step : State → Request → Verdict
+  prepare_step s r =
+      need (nat_lt s.prepared last_number) NoneLeft
+      (seals (prepare s.view (s.prepared + 1) r) (with_prepared s r 0) rest (s.prepared + 1))
+
   abbrev pub order_step : State → Request → Verdict
   order_step s r =
       need (working s.phase && leads s) NotAllowed
       (need (nat_le s.selected s.prepared) OutOfTurn
-      (need (nat_lt s.prepared last_number) NoneLeft
-      (seals (prepare s.view (s.prepared + 1) r) (with_prepared s r 0) rest (s.prepared + 1))))
+      (prepare_step s r))
 
   abbrev pub repeat_step : State → Verdict
   repeat_step s =
       need (working s.phase && leads s) NotAllowed
       (need (nat_lt s.prepared s.selected) OutOfTurn
-      (need (nat_lt s.prepared last_number) NoneLeft
-      (seals (prepare s.view (s.prepared + 1) (selected_at s s.prepared)) (with_prepared s (selected_at s s.prepared) 0) rest (s.prepared + 1))))
+      (prepare_step s (selected_at s s.prepared)))
 
   -- the next number is prepared and committed to; up to the last number selected only the selected request will do
   abbrev pub hear_prepare : State → (number : ℕ) → Request → Verdict

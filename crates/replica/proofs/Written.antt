@@ -1,5 +1,5 @@
 -- A message that fits its ranges and its buffer is written whole, at the start of the buffer.
-use Rattle.std.proofs.Common.{◌≡◌, ℕ, ◌≤◌, Bool, List, ◌++◌, length, take, drop, Some, Ok, Option, Result, refl, ap, ◌∙◌, subst}
+use Rattle.std.proofs.Common.{◌≡◌, ℕ, ◌≤◌, true, List, ◌++◌, length, take, drop, Some, Ok, Option, Result, refl, ap, ◌∙◌}
 use Rattle.std.proofs.lemmas.List.{take_at}
 use Rattle.std.proofs.lemmas.Bool.{le-leb}
 use Rattle.wire.specs.declared.config.ClusterConfig.{ClusterConfig}
@@ -8,7 +8,8 @@ use Rattle.wire.specs.Laws.{Fits}
 use Rattle.wire.specs.Statements.{Statement}
 use Rattle.wire.specs.Writing.{writing, size, answered, filled}
 use Rattle.wire.proofs.Sizes.{length_writing}
-use Rattle.seals.specs.Registers.{Pair}
+use Rattle.seals.specs.Registers.{RegisterState, after_sealing}
+use Rattle.seals.proofs.Sealing.{accepted, fits_accepted}
 use Rattle.protocol.specs.Certificates.{message}
 use Rattle.replica.specs.Sending.{Sealed, Starts}
 
@@ -28,9 +29,11 @@ module _ (config : ClusterConfig) (h : ℕ) (st : Statement) (out out' : List �
   pub written_whole : Starts (message h st) out out'
   written_whole = rw message_length written
 
-  written_start : take (size st) out' ≡ message h st
-  written_start = ap (take (size st)) written ∙ take_at (message h st) (drop (size st) out) (size st) (message_length h st)
-
-  pub sealed_start : (sealed sealed' : ℕ → List ℕ → Bool) (fits fits' : ℕ → Bool) (later later' : List Pair → ℕ → Bool) → Sealed h (take (size st) out') sealed sealed' fits fits' later later'
-      → Sealed h (message h st) sealed sealed' fits fits' later later'
-  sealed_start sealed sealed' fits₁ fits' later later' s = subst (λ (bytes : List ℕ). Sealed h bytes sealed sealed' fits₁ fits' later later') written_start s
+  -- the start of the buffer that is sealed is the message
+  pub sealed_whole : (register register' : RegisterState) (long : ℕ) → long ≡ size st → register.fits (size st) ≡ true → register' ≡ after_sealing register h (take long out')
+      → Sealed h (message h st) register register'
+  sealed_whole register register' long e has left =
+      let start : take long out' ≡ message h st = ap (λ (k : ℕ). take k out') e ∙ ap (take (size st)) written ∙ take_at (message h st) (drop (size st) out) (size st) (message_length h st) in
+      let all : register' ≡ after_sealing register h (message h st) = left ∙ ap (after_sealing register h) start in
+      let given = fits_accepted register h (message h st) (ap register.fits (message_length h st) ∙ has) in
+      record { pairs = ap (λ (r : RegisterState). r.sealed) all ∙ accepted register h (message h st) given; all = all }

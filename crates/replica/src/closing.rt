@@ -7,36 +7,25 @@ ghost use Rattle.protocol.specs.States.{most_replicas, with_closing};
 ghost use Rattle.protocol.specs.Steps.{closes};
 ghost use Rattle.replica.specs.Calls.{scene, Does};
 
-use crate::phases::is_gathering;
 use crate::replica::Replica;
-use crate::sending::{CLOSING_LENGTH, send_closing};
+use crate::sending::{check_room, send};
 use machines::machine::Machine;
 use protocol::fault::ReplicaFault;
 use protocol::state::{Phase, State};
-use seals::fault::RegisterFault;
 use seals::register::Register;
+use wire::draft::Content;
+use wire::kind::Kind;
 
 fn is_held(state: &State, replica: u8) -> bool
-    requires { replica < most_replicas }
     ensures { result ≡ holds state.now replica }
 {
-    match &state.reports[usize::from(replica)] {
-        Some(_) => true,
-        None => false,
-    }
+    matches!(state.reports.get(usize::from(replica)), Some(Some(_)))
 }
 
-fn count_held(state: &State, n: u8) -> u8
-    requires { n ≤ most_replicas }
+fn count_held(state: &State, n: u8) -> usize
     ensures { result ≡ count n (holds state.now) }
 {
-    let mut held = 0;
-    for replica in 0..n {
-        if is_held(state, replica) {
-            held += 1;
-        }
-    }
-    held
+    (0..n).filter(|&replica| is_held(state, replica)).count()
 }
 
 fn mask_held(state: &State, n: u8) -> u16
@@ -68,32 +57,20 @@ impl<M: Machine> Replica<M> {
         register: &mut R,
         out: &mut [u8],
     ) -> Result<u64, ReplicaFault>
-        ensures { Does (of_works M.Machine.meaning) closes result (scene M.Machine.state R.Register.sealed R.Register.fits R.Register.then_fits self.old register.old out.old) (scene M.Machine.state R.Register.sealed R.Register.fits R.Register.then_fits self.new register.new out.new) }
+        ensures { Does (of_works M.meaning) closes result (scene M.state R.state self.old register.old out.old) (scene M.state R.state self.new register.new out.new) }
     {
-        if !is_gathering(self.state.phase) {
+        if self.state.phase != Phase::Gathering {
             return Err(ReplicaFault::NotAllowed);
         }
         let n = self.state.config.n();
-        if count_held(&self.state, n) <= self.state.config.t() {
+        if count_held(&self.state, n) <= usize::from(self.state.config.t()) {
             return Err(ReplicaFault::TooFew);
         }
-        if out.len() < CLOSING_LENGTH {
-            return Err(ReplicaFault::ShortBuffer);
-        }
-        if !register.has_room(CLOSING_LENGTH) {
-            return Err(ReplicaFault::Register(RegisterFault::Full));
-        }
-        let number = self.state.number;
+        check_room(register, out, Kind::Closing.message_length(1))?;
         let mask = mask_held(&self.state, n);
-        send_closing(
-            register,
-            self.state.config,
-            number,
-            self.state.view,
-            mask,
-            out,
-        );
+        let length = send(register, &self.state, &Content::Closing { mask }, out);
+        let number = self.state.number;
         note_closing(&mut self.state, Phase::Closed, number, mask);
-        Ok(CLOSING_LENGTH as u64)
+        Ok(length)
     }
 }

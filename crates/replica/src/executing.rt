@@ -8,34 +8,25 @@ ghost use Rattle.protocol.specs.States.{with_executed};
 ghost use Rattle.protocol.specs.Steps.{carries_out, all_heard};
 ghost use Rattle.replica.specs.Calls.{scene, Does};
 
-use crate::masks::is_named;
-use crate::phases::is_working;
 use crate::replica::Replica;
-use crate::sending::{REPLY_LENGTH, send_reply};
+use crate::sending::{check_room, send};
 use groups::group::Group;
 use machines::machine::Machine;
 use protocol::fault::ReplicaFault;
-use protocol::state::State;
-use seals::fault::RegisterFault;
+use protocol::state::{Phase, State};
 use seals::register::Register;
+use wire::draft::Content;
 use wire::entry::LogEntry;
+use wire::kind::Kind;
+use wire::mask::names;
 
 // A primary's vote is its prepare, a follower's the commit heard.
-fn has_voted(commits: u16, primary: u8, member: u8) -> bool
-    ensures { result ≡ (member == primary) || names commits member }
-{
-    member == primary || is_named(commits, member)
-}
-
 fn all_voted(members: &[u8], primary: u8, commits: u16) -> bool
     ensures { result ≡ every members.now (λ g. (g == primary) || names commits g) }
 {
-    for member in members {
-        if !has_voted(commits, primary, *member) {
-            return false;
-        }
-    }
-    true
+    members
+        .iter()
+        .all(|member| *member == primary || names(commits, *member))
 }
 
 fn next_is_voted(state: &State) -> bool
@@ -69,9 +60,9 @@ impl<M: Machine> Replica<M> {
         register: &mut R,
         out: &mut [u8],
     ) -> Result<u64, ReplicaFault>
-        ensures { Does (of_works M.Machine.meaning) carries_out result (scene M.Machine.state R.Register.sealed R.Register.fits R.Register.then_fits self.old register.old out.old) (scene M.Machine.state R.Register.sealed R.Register.fits R.Register.then_fits self.new register.new out.new) }
+        ensures { Does (of_works M.meaning) carries_out result (scene M.state R.state self.old register.old out.old) (scene M.state R.state self.new register.new out.new) }
     {
-        if !is_working(self.state.phase) {
+        if self.state.phase != Phase::Working {
             return Err(ReplicaFault::NotAllowed);
         }
         if self.state.executed >= self.state.prepared {
@@ -80,24 +71,15 @@ impl<M: Machine> Replica<M> {
         if !next_is_voted(&self.state) {
             return Err(ReplicaFault::TooFew);
         }
-        if out.len() < REPLY_LENGTH {
-            return Err(ReplicaFault::ShortBuffer);
-        }
-        if !register.has_room(REPLY_LENGTH) {
-            return Err(ReplicaFault::Register(RegisterFault::Full));
-        }
+        check_room(register, out, Kind::Reply.message_length(1))?;
         let request = self.state.requests[usize::from(self.state.executed)];
         let outcome = self.machine.apply(request.work());
-        send_reply(
-            register,
-            self.state.config,
-            self.state.number,
-            self.state.view,
-            u32::from(self.state.executed) + 1,
+        let content = Content::Reply {
+            number: u32::from(self.state.executed) + 1,
             request,
             outcome,
-            out,
-        );
+        };
+        send(register, &self.state, &content, out);
         enter_next(&mut self.state);
         Ok(outcome)
     }

@@ -3,7 +3,6 @@
 
 mod closing;
 mod executing;
-mod masks;
 mod phases;
 pub mod questions;
 pub mod replica;

@@ -5,15 +5,15 @@ ghost use Rattle.protocol.specs.States.{reported, most_replicas};
 ghost use Rattle.protocol.specs.Steps.{reports};
 ghost use Rattle.replica.specs.Calls.{scene, Does};
 
-use crate::phases::is_turning;
 use crate::replica::Replica;
-use crate::sending::send_report;
+use crate::sending::{check_room, send};
 use groups::group::Group;
 use machines::machine::Machine;
 use protocol::fault::ReplicaFault;
 use protocol::state::{HeldReport, Phase, State};
-use seals::fault::RegisterFault;
 use seals::register::Register;
+use wire::draft::Content;
+use wire::kind::Kind;
 
 // A member of the group holds its own report and gathers, another replica steps aside.
 fn hold_own(state: &mut State)
@@ -37,27 +37,21 @@ impl<M: Machine> Replica<M> {
         register: &mut R,
         out: &mut [u8],
     ) -> Result<u64, ReplicaFault>
-        ensures { Does (of_works M.Machine.meaning) reports result (scene M.Machine.state R.Register.sealed R.Register.fits R.Register.then_fits self.old register.old out.old) (scene M.Machine.state R.Register.sealed R.Register.fits R.Register.then_fits self.new register.new out.new) }
+        ensures { Does (of_works M.meaning) reports result (scene M.state R.state self.old register.old out.old) (scene M.state R.state self.new register.new out.new) }
     {
-        if !is_turning(self.state.phase) {
+        if self.state.phase != Phase::Turning {
             return Err(ReplicaFault::NotAllowed);
         }
-        let len = 7 + self.log().len() * 24;
-        if out.len() < len {
-            return Err(ReplicaFault::ShortBuffer);
-        }
-        if !register.has_room(len) {
-            return Err(ReplicaFault::Register(RegisterFault::Full));
-        }
-        send_report(
+        check_room(
             register,
-            self.state.config,
-            self.state.number,
-            self.state.view,
-            self.log(),
             out,
-        );
+            Kind::Report.message_length(self.state.logged),
+        )?;
+        let content = Content::Report {
+            entries: self.log(),
+        };
+        let length = send(register, &self.state, &content, out);
         hold_own(&mut self.state);
-        Ok(len as u64)
+        Ok(length)
     }
 }

@@ -1,16 +1,16 @@
 // Sending: a message is written at the start of the lent buffer and sealed.
 ghost use Rattle.std.specs.Prelude.{◌≡◌, ◌≤◌, true, length};
-ghost use Rattle.wire.specs.Drafts.{statement_of};
+ghost use Rattle.wire.specs.Drafts.{stating};
 ghost use Rattle.wire.specs.Laws.{Fits};
 ghost use Rattle.wire.specs.Writing.{size};
 ghost use Rattle.protocol.specs.Certificates.{message};
 ghost use Rattle.replica.specs.Sending.{room_for, Sealed, Starts};
 
 use protocol::fault::ReplicaFault;
+use protocol::state::State;
 use seals::fault::RegisterFault;
 use seals::register::Register;
-use wire::config::ClusterConfig;
-use wire::draft::Draft;
+use wire::draft::{Content, Draft};
 
 // The buffer, and then the register, must have room for a message of that length.
 pub(crate) fn check_room<R: Register>(
@@ -30,21 +30,26 @@ pub(crate) fn check_room<R: Register>(
     Ok(())
 }
 
-// Sends a message that has room; answers its length.
+// Sends what a replica says in its view, once there is room for it; answers the length.
 pub(crate) fn send<R: Register>(
     register: &mut R,
-    config: ClusterConfig,
-    draft: &Draft<'_>,
+    state: &State,
+    content: &Content<'_>,
     out: &mut [u8],
 ) -> u64
-    requires ranges { Fits config draft.now.replica (statement_of draft.now) }
-    requires buffer { size (statement_of draft.now) ≤ length out.old }
-    requires room { (R.state register.old).fits (size (statement_of draft.now)) ≡ true }
-    ensures answer { result ≡ size (statement_of draft.now) }
-    ensures sealed { Sealed draft.now.replica (message draft.now.replica (statement_of draft.now)) (R.state register.old) (R.state register.new) }
-    ensures written { Starts (message draft.now.replica (statement_of draft.now)) out.old out.new }
+    requires ranges { Fits state.now.config state.now.number (stating state.now.view content.now) }
+    requires buffer { size (stating state.now.view content.now) ≤ length out.old }
+    requires room { (R.state register.old).fits (size (stating state.now.view content.now)) ≡ true }
+    ensures answer { result ≡ size (stating state.now.view content.now) }
+    ensures sealed { Sealed state.now.number (message state.now.number (stating state.now.view content.now)) (R.state register.old) (R.state register.new) }
+    ensures written { Starts (message state.now.number (stating state.now.view content.now)) out.old out.new }
 {
-    let length = draft.write(config, out).unwrap().unwrap();
-    register.seal(draft.replica, &out[..length]).unwrap();
+    let draft = Draft {
+        replica: state.number,
+        view: state.view,
+        content: *content,
+    };
+    let length = draft.write(state.config, out).unwrap().unwrap();
+    register.seal(state.number, &out[..length]).unwrap();
     length as u64
 }

@@ -8,13 +8,13 @@ ghost use Rattle.replica.specs.Calls.{scene, Does};
 
 use crate::phases::may_doubt;
 use crate::replica::Replica;
-use crate::sending::{DOUBT_LENGTH, send_doubt};
+use crate::sending::{check_room, send};
 use machines::machine::Machine;
 use protocol::fault::ReplicaFault;
 use protocol::state::{Phase, REPLICAS, State};
-use seals::fault::RegisterFault;
 use seals::register::Register;
-use wire::kind::LAST_VIEW;
+use wire::draft::Content;
+use wire::kind::{Kind, LAST_VIEW};
 
 // Turns to the next view.
 fn turn(state: &mut State)
@@ -34,7 +34,7 @@ impl<M: Machine> Replica<M> {
         register: &mut R,
         out: &mut [u8],
     ) -> Result<u64, ReplicaFault>
-        ensures { Does (of_works M.Machine.meaning) doubts result (scene M.Machine.state R.Register.sealed R.Register.fits R.Register.then_fits self.old register.old out.old) (scene M.Machine.state R.Register.sealed R.Register.fits R.Register.then_fits self.new register.new out.new) }
+        ensures { Does (of_works M.meaning) doubts result (scene M.state R.state self.old register.old out.old) (scene M.state R.state self.new register.new out.new) }
     {
         if !may_doubt(self.state.phase) {
             return Err(ReplicaFault::NotAllowed);
@@ -42,20 +42,9 @@ impl<M: Machine> Replica<M> {
         if self.state.view >= LAST_VIEW {
             return Err(ReplicaFault::NoneLeft);
         }
-        if out.len() < DOUBT_LENGTH {
-            return Err(ReplicaFault::ShortBuffer);
-        }
-        if !register.has_room(DOUBT_LENGTH) {
-            return Err(ReplicaFault::Register(RegisterFault::Full));
-        }
-        send_doubt(
-            register,
-            self.state.config,
-            self.state.number,
-            self.state.view,
-            out,
-        );
+        check_room(register, out, Kind::Doubt.message_length(0))?;
+        let length = send(register, &self.state, &Content::Doubt, out);
         turn(&mut self.state);
-        Ok(DOUBT_LENGTH as u64)
+        Ok(length)
     }
 }

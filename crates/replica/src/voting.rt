@@ -1,20 +1,20 @@
 // The primary's calls: order and repeat.
-ghost use Rattle.std.specs.Prelude.{◌≡◌, ◌<◌};
+ghost use Rattle.std.specs.Prelude.{◌≡◌, ◌<◌, ◌&&◌, true, length};
 ghost use Rattle.wire.specs.Kinds.{last_number};
 ghost use Rattle.protocol.specs.Replay.{of_works};
-ghost use Rattle.protocol.specs.States.{with_prepared};
-ghost use Rattle.protocol.specs.Steps.{orders, repeats};
-ghost use Rattle.replica.specs.Calls.{scene, Does};
+ghost use Rattle.protocol.specs.States.{with_prepared, working, leads};
+ghost use Rattle.protocol.specs.Steps.{orders, repeats, prepare_step};
+ghost use Rattle.replica.specs.Calls.{scene, Does, Leaves};
 
 use crate::phases::may_order;
 use crate::replica::Replica;
-use crate::sending::{VOTE_LENGTH, send_prepare};
+use crate::sending::{check_room, send};
 use machines::machine::Machine;
 use protocol::fault::ReplicaFault;
 use protocol::state::State;
-use seals::fault::RegisterFault;
 use seals::register::Register;
-use wire::kind::LAST_NUMBER;
+use wire::draft::Content;
+use wire::kind::{Kind, LAST_NUMBER};
 use wire::request::Request;
 
 // Takes a request as the next number, with these commits heard.
@@ -29,6 +29,27 @@ fn prepare_next(state: &mut State, request: Request, commits: u16)
 }
 
 impl<M: Machine> Replica<M> {
+    // Prepares a request as the next number; answers the number.
+    fn prepare<R: Register>(
+        &mut self,
+        register: &mut R,
+        request: Request,
+        out: &mut [u8],
+    ) -> Result<u64, ReplicaFault>
+        requires { working self.old.state.phase ≡ true }
+        ensures { Leaves (of_works M.meaning) (prepare_step (R.state register.old).sealed (R.state register.old).fits (length out.old) self.old.state request) result (scene M.state R.state self.old register.old out.old) (scene M.state R.state self.new register.new out.new) }
+    {
+        if self.state.prepared >= LAST_NUMBER {
+            return Err(ReplicaFault::NoneLeft);
+        }
+        check_room(register, out, Kind::Prepare.message_length(1))?;
+        let number = u32::from(self.state.prepared) + 1;
+        let content = Content::Prepare { number, request };
+        send(register, &self.state, &content, out);
+        prepare_next(&mut self.state, request, 0);
+        Ok(u64::from(number))
+    }
+
     // Gives a new request the next number and prepares it; answers the number.
     pub fn order<R: Register>(
         &mut self,
@@ -36,7 +57,7 @@ impl<M: Machine> Replica<M> {
         request: Request,
         out: &mut [u8],
     ) -> Result<u64, ReplicaFault>
-        ensures { Does (of_works M.Machine.meaning) (orders request) result (scene M.Machine.state R.Register.sealed R.Register.fits R.Register.then_fits self.old register.old out.old) (scene M.Machine.state R.Register.sealed R.Register.fits R.Register.then_fits self.new register.new out.new) }
+        ensures { Does (of_works M.meaning) (orders request) result (scene M.state R.state self.old register.old out.old) (scene M.state R.state self.new register.new out.new) }
     {
         if !may_order(&self.state) {
             return Err(ReplicaFault::NotAllowed);
@@ -44,27 +65,7 @@ impl<M: Machine> Replica<M> {
         if self.state.prepared < self.state.selected {
             return Err(ReplicaFault::OutOfTurn);
         }
-        if self.state.prepared >= LAST_NUMBER {
-            return Err(ReplicaFault::NoneLeft);
-        }
-        if out.len() < VOTE_LENGTH {
-            return Err(ReplicaFault::ShortBuffer);
-        }
-        if !register.has_room(VOTE_LENGTH) {
-            return Err(ReplicaFault::Register(RegisterFault::Full));
-        }
-        let number = self.state.prepared + 1;
-        send_prepare(
-            register,
-            self.state.config,
-            self.state.number,
-            self.state.view,
-            u32::from(number),
-            request,
-            out,
-        );
-        prepare_next(&mut self.state, request, 0);
-        Ok(u64::from(number))
+        self.prepare(register, request, out)
     }
 
     // Prepares the next request selected, again under its number; answers the number.
@@ -73,7 +74,7 @@ impl<M: Machine> Replica<M> {
         register: &mut R,
         out: &mut [u8],
     ) -> Result<u64, ReplicaFault>
-        ensures { Does (of_works M.Machine.meaning) repeats result (scene M.Machine.state R.Register.sealed R.Register.fits R.Register.then_fits self.old register.old out.old) (scene M.Machine.state R.Register.sealed R.Register.fits R.Register.then_fits self.new register.new out.new) }
+        ensures { Does (of_works M.meaning) repeats result (scene M.state R.state self.old register.old out.old) (scene M.state R.state self.new register.new out.new) }
     {
         if !may_order(&self.state) {
             return Err(ReplicaFault::NotAllowed);
@@ -81,27 +82,7 @@ impl<M: Machine> Replica<M> {
         if self.state.prepared >= self.state.selected {
             return Err(ReplicaFault::OutOfTurn);
         }
-        if self.state.prepared >= LAST_NUMBER {
-            return Err(ReplicaFault::NoneLeft);
-        }
-        if out.len() < VOTE_LENGTH {
-            return Err(ReplicaFault::ShortBuffer);
-        }
-        if !register.has_room(VOTE_LENGTH) {
-            return Err(ReplicaFault::Register(RegisterFault::Full));
-        }
-        let number = self.state.prepared + 1;
         let request = self.state.selection[usize::from(self.state.prepared)];
-        send_prepare(
-            register,
-            self.state.config,
-            self.state.number,
-            self.state.view,
-            u32::from(number),
-            request,
-            out,
-        );
-        prepare_next(&mut self.state, request, 0);
-        Ok(u64::from(number))
+        self.prepare(register, request, out)
     }
 }

@@ -1,16 +1,12 @@
-use Rattle.std.proofs.Common.{sym, ◌∙◌, arith}
-use Rattle.wire.proofs.Counts.{count_yes, count_no}
+use Rattle.std.proofs.Common.{◌∙◌, arith, rules}
+use Rattle.std.proofs.lemmas.Iterator.{YieldsList-from_range}
+use Rattle.std.proofs.lemmas.Iterator.Consumers.{YieldsList-from_filter, count_from_yields_List}
 use Rattle.protocol.specs.Selecting.{holds}
+use Rattle.wire.proofs.Counts.{length-filter-below}
 use Rattle.replica.proofs.closing.count_held.Goals as goal
-use Rattle.replica.proofs.closing.count_held.Goals.{then-is_held, else-is_held}
 
-pub loop-replica-preserved : goal.loop-replica-preserved
-loop-replica-preserved c =
-    elim c.if-is_held.branch [
-      | then-is_held w ↦
-          let e = count_yes c.loop-replica.replica (holds c.args.state.now) (sym c.is_held.ensures ∙ w.if-is_held.true) in
-          (omega (arith, w.held-is, e), omega (arith, w.held-is))
-      | else-is_held w ↦
-          let e = count_no c.loop-replica.replica (holds c.args.state.now) (sym c.is_held.ensures ∙ w.if-is_held.false) in
-          (omega (arith, w.held-is, e), omega (arith, w.held-is))
-    ]
+pub returns : goal.returns
+returns c =
+    count_from_yields_List _ _ c.count.ensures.ran
+    (YieldsList-from_filter _ (holds c.args.state.now) (YieldsList-from_range 0 c.args.n c.args.n (search rules) (omega arith)) c.filter.ensures.closure (λ x r q k. search rules))
+    ∙ length-filter-below (holds c.args.state.now) c.args.n

@@ -1,4 +1,4 @@
-use Rattle.std.proofs.Common.{◌≡◌, ◌<◌, true, sym, ◌∙◌, subst, arith}
+use Rattle.std.proofs.Common.{◌≡◌, ◌<◌, true, sym, ◌∙◌, subst, arith, rules}
 use Rattle.wire.specs.Kinds.{last_number}
 use Rattle.protocol.specs.States.{working}
 use Rattle.replica.specs.Valid.{Placed, Ordered, Counted, Sized, Peered, Earlier}
@@ -9,7 +9,7 @@ pub invariant_of-self : goal.invariant_of-self
 invariant_of-self g c =
     let r = c.args.self.now in
     let s = r.state in
-    let works : working s.phase ≡ true = sym c.is_working.ensures ∙ c.if-not-is_working.false in
+    let works : working s.phase ≡ true = search rules in
     let more : s.executed < s.prepared = omega (arith, c.if-self.false) in
     let room : s.executed < last_number = omega (arith, more, r.counted.0) in
     let e = sym c.enter_next.ensures in
