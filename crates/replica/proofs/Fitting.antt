@@ -1,10 +1,9 @@
 -- What a replica keeps true of its state puts its messages in their ranges.
-use Rattle.std.proofs.Common.{◌≡◌, ℕ, suc, ◌+◌, ◌/◌, ◌^◌, ◌<◌, ◌≤◌, true, false, leb, List, [], ◌∷◌, length, get_or, None, refl, ◌∙◌, subst, suc-le-suc, zero-le, lt_of_lt_of_le, arith, length-take-le, get_or-take, pow_mono}
-use native.Mathlib.Nat.{div-eq_of_lt}
+use Rattle.std.proofs.Common.{◌≡◌, ℕ, suc, ◌+◌, ◌^◌, ◌<◌, ◌≤◌, true, leb, List, [], ◌∷◌, length, get_or, None, refl, ◌∙◌, subst, suc-le-suc, zero-le, arith, length-take-le, get_or-take}
 use Rattle.std.proofs.lemmas.Bool.{lt-ltb, le-leb, cond-true}
 use Rattle.wire.specs.declared.entry.LogEntry.{LogEntry}
 use Rattle.wire.specs.Configs.{replicas, faults}
-use Rattle.wire.specs.Counting.{count, names}
+use Rattle.wire.specs.Counting.{count}
 use Rattle.wire.specs.Kinds.{last_view, last_number}
 use Rattle.wire.specs.Laws.{Fits}
 use Rattle.wire.specs.Statements.{report, closing}
@@ -14,12 +13,6 @@ use Rattle.protocol.specs.Selecting.{peers, holds, held_mask}
 use Rattle.protocol.specs.States.{blank_entry, entries, turning}
 use Rattle.protocol.proofs.Masks.{mask_small, mask_count}
 use Rattle.replica.specs.Valid.{Placed, Counted, Sized, Earlier}
-
--- a mask of sixteen bits names no replica from 16 up
-pub unnamed : (mask h : ℕ) → mask < 2 ^ 16 → 16 ≤ h → names mask h ≡ false
-unnamed mask h small above =
-    let gone : mask / 2 ^ h ≡ 0 = div-eq_of_lt (lt_of_lt_of_le small (pow_mono above)) in
-    rw gone
 
 none_late : (view offset : ℕ) (es : List LogEntry) → ((k : ℕ) → k < length es → (get_or es k blank_entry).view < view) → late_entry view offset es ≡ None
 none_late view offset [] earlier = refl

@@ -1,9 +1,6 @@
-use Rattle.std.proofs.Common.{◌≡◌, ℕ, ◌+◌, ◌*◌, Bool, true, List, length, sym, ap, ◌∙◌, subst, arith, rules}
-use Rattle.wire.specs.declared.entry.LogEntry.{LogEntry}
-use Rattle.wire.specs.Laws.{Fits}
-use Rattle.wire.specs.Statements.{report}
+use Rattle.std.proofs.Common.{◌≡◌, true, rules}
 use Rattle.protocol.specs.States.{turning}
-use Rattle.replica.proofs.Fitting.{report_fits, entries_few}
+use Rattle.replica.proofs.Fitting.{report_fits}
 use Rattle.replica.proofs.replica.Replica.report.Goals as goal
 
 pub send-length-requires-clause-ranges : goal.send-length-requires-clause-ranges
