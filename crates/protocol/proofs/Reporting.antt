@@ -1,5 +1,6 @@
 -- Reporting, and holding a report that is heard, keep what an honest replica keeps: a report that is held has a certificate for each entry.
-use Rattle.std.proofs.Common.{◌≡◌, ℕ, zero, suc, ◌+◌, ◌<◌, ◌≤◌, Bool, true, false, cond, not, T, List, [], ◌∷◌, length, get_or, set, Some, None, Option, sym, refl, ◌∙◌, subst, ⊎_elim, not-suc-le-zero, add-zero, arith, length-set, length-take-le, get_or-take}
+use Rattle.std.proofs.Common.{◌≡◌, ℕ, zero, suc, ◌+◌, ◌<◌, ◌≤◌, Bool, true, false, cond, not, T, List, [], ◌∷◌, length, get_or, take, set, Some, None, Option, sym, refl, ◌∙◌, subst, ⊎_elim, not-suc-le-zero, add-zero, arith, length-set, length-take-le, get_or-take}
+use Rattle.std.proofs.lemmas.Grind.{elements}
 use lib.Dec.{not_T}
 use lib.Seq.{take-append_seam}
 use Rattle.wire.specs.declared.config.ClusterConfig.{ClusterConfig}
@@ -21,7 +22,7 @@ use Rattle.protocol.specs.Receipts.{Made}
 use Rattle.protocol.specs.Replay.{RequestMachine}
 use Rattle.protocol.specs.Rules.{Certified, HasEntry}
 use Rattle.protocol.specs.Selecting.{holds}
-use Rattle.protocol.specs.States.{blank_entry, most_replicas, working, turning, active, entries, entries_in, noted, changed_to, as_held, with_report, reported}
+use Rattle.protocol.specs.States.{blank_entry, most_replicas, working, turning, active, entries, entries_in, held, noted, changed_to, as_held, with_report, reported}
 use Rattle.protocol.specs.Steps.{Effect, rest, accepted, report_step, hold, hear_report}
 use Rattle.protocol.specs.Votes.{vote}
 use Rattle.protocol.proofs.Tests.{refused_not, needed, sealing, as_accepted, every_at}
@@ -29,7 +30,6 @@ use Rattle.protocol.proofs.Lists.{has_entry}
 use Rattle.protocol.proofs.Known.{fits_parts, fits_vote, fits_report, report_in_range}
 use Rattle.protocol.proofs.Parts.{has_closed, serving, Shape, Reports, Holds, Inv}
 use Rattle.protocol.proofs.Grow.{Adds, Keeps, silent, is_vote, is_reply, is_closing, certified_grows, votes_grow, replies_grow, logs_grow, closings_grow, holds_grow, inv_adds}
-use Rattle.protocol.proofs.Idle.{turning_idle, turning_unclosed, votes_idle, prepares_idle, executes_idle, logs_idle, opens_idle, closings_idle, holds_report, changed_shape, has_place, filled_report}
 
 -- ---- certificates
 
@@ -55,6 +55,26 @@ certificates config sealed view es low (short, early) none k l h inside grouped 
       fits_vote config h entry.view (suc k) entry.request inside (omega (arith, early k blank_entry l)) (omega arith) (omega arith),
       every_at (group config entry.view) (λ h. known sealed h (vote config entry.view h (suc k) entry.request)) found h grouped,
     )
+
+-- ---- one report more
+
+-- the entries of a report that is held: short, earlier and certified
+abbrev Sound : ClusterConfig → {machine : RequestMachine} → Facts machine → (view : ℕ) → List LogEntry → Type 0
+Sound config {machine} facts view es =
+    (k : ℕ) → k < length es
+    → ((get_or es k blank_entry).view < view) × Certified config machine facts (get_or es k blank_entry).view (suc k) (get_or es k blank_entry).request
+
+report_held : (machine : RequestMachine) (facts : Facts machine) (s : State) → Shape s → Holds s.config machine facts s.number s.view (held s) (noted s)
+    → (g : ℕ) (a : HeldReport) (es : List LogEntry) → g < replicas s.config → take a.len a.entries ≡ es
+    → facts.Known g (report s.view es) → length es ≤ last_number → Sound s.config facts s.view es
+    → Holds s.config machine facts s.number s.view (λ x. entries_in (get_or (set s.reports g (Some a)) x None)) (noted s)
+report_held machine facts s shape holds g a es inside is known short sound =
+    record {
+      reported = λ x es' e. grind (arith, elements, holds.reported x es', known);
+      short = λ x es' e. grind (arith, elements, holds.short x es', short);
+      certified = λ x es' e. grind (arith, elements, holds.certified x es', sound);
+      noted_closing = holds.noted_closing;
+    }
 
 -- ---- reporting
 
@@ -118,9 +138,7 @@ module _ (machine : RequestMachine) (facts facts' : Facts machine) (s : State) (
         own : HeldReport
         own = record { len = s.logged; entries = s.log }
 
-        own_certified : (k : ℕ) → k < length (entries s)
-            → ((get_or (entries s) k blank_entry).view < s.view)
-            × Certified s.config machine facts' (get_or (entries s) k blank_entry).view (suc k) (get_or (entries s) k blank_entry).request
+        own_certified : Sound s.config facts' s.view (entries s)
         own_certified k l =
             let below : k < s.logged = omega (arith, long_entries) in
             (early_entries k l, rw (get_or-take s.logged s.log k blank_entry below) (certified_grows s.config adds.grows _ (suc k) _ (inv.logs.certified k below)))
@@ -130,9 +148,7 @@ module _ (machine : RequestMachine) (facts facts' : Facts machine) (s : State) (
         go true is =
             reported_keeps Gathering (set s.reports s.number (Some own)) (λ t. t) (λ t. t)
             (length-set s.reports s.number (Some own) ∙ inv.shape.long_reports) (λ t. subst T (sym is) tt)
-            (holds_report s.config machine facts' s.number (holds_grow s.config adds.grows inv.holds) _ s.number (entries s)
-            (λ x. filled_report s.reports s.number x own (entries s)
-            (rw inv.shape.long_reports (has_place s.config s.number inv.shape.inside)) refl)
+            (report_held machine facts' s inv.shape (holds_grow s.config adds.grows inv.holds) s.number own (entries s) inv.shape.inside refl
             (adds.new (report s.view (entries s)) refl) (rw long_entries inv.shape.few_logged) own_certified)
         go false is = reported_keeps Aside s.reports (λ t. t) (λ t. t) inv.shape.long_reports (λ t. absurd t) (holds_grow s.config adds.grows inv.holds)
 
@@ -153,14 +169,11 @@ module _ (sealed : ℕ → List ℕ → Bool) (fits : ℕ → Bool) (room : ℕ)
   -- ---- hearing a REPORT
 
   hold_keeps : (g : ℕ) (es : List LogEntry) → g < replicas s.config → facts.Known g (report s.view es) → length es ≤ last_number
-      → ((k : ℕ) → k < length es
-      → ((get_or es k blank_entry).view < s.view) × Certified s.config machine facts (get_or es k blank_entry).view (suc k) (get_or es k blank_entry).request)
+      → Sound s.config facts s.view es
       → Inv machine facts (with_report s s.phase g (as_held es)) state
   hold_keeps g es inside known short certified =
       let shape : Shape (with_report s s.phase g (as_held es)) = search (arith, length-set {A = Option HeldReport}, inv.shape) in
-      let holds : Holds s.config machine facts s.number s.view (λ x. entries_in (get_or (set s.reports g (Some (as_held es))) x None)) (noted s) =
-      holds_report s.config machine facts s.number inv.holds _ g es
-      (λ x. filled_report s.reports g x (as_held es) es (rw inv.shape.long_reports (has_place s.config g inside)) (take-append_seam es _)) known short certified in
+      let holds = report_held machine facts s inv.shape inv.holds g (as_held es) es inside (take-append_seam es _) known short certified in
       assumption
 
   -- a report is held only if no entry lacks its certificate
