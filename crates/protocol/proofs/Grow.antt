@@ -82,15 +82,7 @@ module _ (config : ClusterConfig) {machine : RequestMachine} {facts facts' : Fac
   executed_grows {h} {v} (one_more r before certified known) = one_more r (executed_grows before) (certified_grows v _ r certified) (grows.known h _ known)
 
   pub replied_grows : {h v n : ℕ} {r : Request} {outcome : ℕ} → Replied config machine facts h v n r outcome → Replied config machine facts' h v n r outcome
-  replied_grows {v = v} {n = n} {r = r} p =
-      record {
-        before = p.before;
-        numbered = p.numbered;
-        state = p.state;
-        executed = executed_grows p.executed;
-        certified = certified_grows v n r p.certified;
-        gives = p.gives;
-      }
+  replied_grows p = search (arith, p, executed_grows, certified_grows)
 
   pub backed_grows : (from to n : ℕ) (r : Request) → Backed config machine facts from to n r → Backed config machine facts' from to n r
   backed_grows from to n r (v, no_lower, below, certified) = (v, no_lower, below, certified_grows v n r certified)

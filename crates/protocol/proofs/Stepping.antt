@@ -1,5 +1,5 @@
 -- Every accepted call of an honest replica keeps what it keeps, and leaves behind what it has to; no call alters a replica's number or config.
-use Rattle.std.proofs.Common.{◌≡◌, ℕ, ◌+◌, ◌-◌, ◌^◌, ◌<◌, Bool, true, false, cond, not, ◌&&◌, ◌||◌, T, eqb, ltb, leb, List, is_some, Some, None, Ok, Err, Option, Result, refl, eqb→eq}
+use Rattle.std.proofs.Common.{◌≡◌, ℕ, ◌+◌, ◌-◌, ◌^◌, ◌<◌, Bool, true, false, cond, not, ◌&&◌, ◌||◌, T, eqb, ltb, leb, List, is_some, Some, None, Ok, Err, Option, Result, refl, arith, eqb→eq}
 use Rattle.wire.specs.declared.entry.LogEntry.{LogEntry}
 use Rattle.wire.specs.declared.fault.ReadFault.{ReadFault}
 use Rattle.wire.specs.declared.request.Request.{Request}
@@ -42,72 +42,17 @@ abbrev pub SamePlace : State → Verdict → Type 0
 SamePlace s (refused fault) = Unit {0}
 SamePlace s (accepted s' effect statement answer) = (s'.number ≡ s.number) × (s'.config ≡ s.config)
 
-module _ (s : State) where
-  need_same : (test : Bool) (fault : ReplicaFault) (verdict : Verdict) → SamePlace s verdict → SamePlace s (need test fault verdict)
-  need_same true fault verdict p = p
-  need_same false fault verdict p = tt
+module _ (s : State) (sealed : ℕ → List ℕ → Bool) (fits : ℕ → Bool) (room : ℕ) where
+  kind_same : (g : ℕ) (st : Statement) → SamePlace s (hear_kind sealed fits room s g st)
+  kind_same g st = grind arith
 
-  either_same : (test : Bool) (a b : State) → (a.number ≡ s.number) × (a.config ≡ s.config) → (b.number ≡ s.number) × (b.config ≡ s.config)
-      → ((cond test a b).number ≡ s.number) × ((cond test a b).config ≡ s.config)
-  either_same true a b p q = p
-  either_same false a b p q = q
+  read_same : (bytes : List ℕ) (read : Result Said ReadFault) → SamePlace s (hear_read sealed fits room s bytes read)
+  read_same bytes (Err fault) = tt
+  read_same bytes (Ok said) = grind (arith, kind_same said.replica said.statement)
 
-  module _ (sealed : ℕ → List ℕ → Bool) (fits : ℕ → Bool) (room : ℕ) where
-    seals_same : (st : Statement) (to : State) (effect : Effect) (answer : ℕ) → (to.number ≡ s.number) × (to.config ≡ s.config)
-        → SamePlace s (seals sealed fits room st to effect answer)
-    seals_same st to effect answer p = need_same (leb (size st) room) _ _ (need_same (fits (size st)) _ _ p)
-
-    hold_same : (g : ℕ) (es : List LogEntry) (lacking : Option ℕ) → SamePlace s (hold sealed fits room s g es lacking)
-    hold_same g es (Some number) = tt
-    hold_same g es None = (refl, refl)
-
-    kind_same : (g : ℕ) (st : Statement) → SamePlace s (hear_kind sealed fits room s g st)
-    kind_same g (prepare view number r) =
-        need_same (eqb number (s.prepared + 1)) _ _
-        (need_same (leb s.selected s.prepared || same r (selected_at s s.prepared)) _ _
-        (seals_same (commit s.view number r) (with_prepared s r (2 ^ s.number)) rest _ (refl, refl)))
-    kind_same g (commit view number r) =
-        need_same (leb number s.prepared) _ _
-        (need_same (same r (prepared_at s (number - 1))) _ _ (need_same (not (names (commits_at s (number - 1)) g)) _ _ (refl, refl)))
-    kind_same g (doubt view) = need_same (ltb s.view last_view) _ _ (refl, refl)
-    kind_same g (report view es) = need_same (not (holds s g)) _ _ (hold_same g es (uncertified s.config sealed 1 es))
-    kind_same g (closing view mask) = need_same (not (is_some (noted s g))) _ _ (need_same (holds_all s (names mask)) _ _ (refl, refl))
-    kind_same g (reply view number r outcome) = tt
-
-    read_same : (bytes : List ℕ) (read : Result Said ReadFault) → SamePlace s (hear_read sealed fits room s bytes read)
-    read_same bytes (Err fault) = tt
-    read_same bytes (Ok said) =
-        need_same (eqb (view_of said.statement) s.view) _ _
-        (need_same (allows s said.statement) _ _
-        (need_same (entitles s said.replica said.statement) _ _
-        (need_same (sealed said.replica bytes) _ _ (kind_same said.replica said.statement))))
-
-    pub step_same : (outcome : Request → ℕ) (act : Act) → SamePlace s (step sealed fits room outcome s act)
-    step_same outcome (orders r) =
-        need_same (working s.phase && leads s) _ _
-        (need_same (leb s.selected s.prepared) _ _
-        (need_same (ltb s.prepared last_number) _ _ (seals_same (prepare s.view (s.prepared + 1) r) (with_prepared s r 0) rest _ (refl, refl))))
-    step_same outcome repeats =
-        need_same (working s.phase && leads s) _ _
-        (need_same (ltb s.prepared s.selected) _ _
-        (need_same (ltb s.prepared last_number) _ _
-        (seals_same (prepare s.view (s.prepared + 1) (selected_at s s.prepared)) (with_prepared s (selected_at s s.prepared) 0) rest _ (refl, refl))))
-    step_same outcome (hears bytes) = read_same bytes (reading s.config bytes)
-    step_same outcome carries_out =
-        need_same (working s.phase) _ _
-        (need_same (ltb s.executed s.prepared) _ _
-        (need_same (all_heard s s.executed) _ _
-        (seals_same (reply s.view (s.executed + 1) (next_request s) (outcome (next_request s))) (with_executed s) (execute (next_request s)) _ (refl, refl))))
-    step_same outcome doubts =
-        need_same (working s.phase || (gathering s.phase || closed s.phase)) _ _
-        (need_same (ltb s.view last_view) _ _ (seals_same (doubt s.view) (turned s) rest _ (refl, refl)))
-    step_same outcome reports = need_same (turning s.phase) _ _ (seals_same (report s.view (entries s)) (reported s) rest _ (either_same (active s) _ _ (refl, refl) (refl, refl)))
-    step_same outcome closes =
-        need_same (gathering s.phase) _ _
-        (need_same (leb (faults s.config + 1) (count (peers s) (holds s))) _ _
-        (seals_same (closing s.view (held_mask s)) (with_closing s Closed s.number (held_mask s)) rest _ (refl, refl)))
-    step_same outcome opens =
-        need_same (closed s.phase) _ _ (need_same (all_noted s) _ _ (need_same (holds_all s (named s)) _ _ (refl, refl)))
+  pub step_same : (outcome : Request → ℕ) (act : Act) → SamePlace s (step sealed fits room outcome s act)
+  step_same outcome (hears bytes) = read_same bytes (reading s.config bytes)
+  step_same outcome act = grind arith
 
 -- ---- what a call leaves behind
 

@@ -77,17 +77,10 @@ module _ {machine : RequestMachine} {facts facts' : Facts machine} (s : State) (
         heard = λ w k g l inside t. grind (arith, elements, heard g inside, adds.grows.known, inv.prepares.heard w k g, inv.shape.long_requests, inv.shape.long_commits);
       }
 
-  -- a vote is no statement of another kind
-  no_other : (kind : Statement → Bool) → ((v n : ℕ) (r : Request) → T (kind (prepare v n r)) → ⊥) → ((v n : ℕ) (r : Request) → T (kind (commit v n r)) → ⊥)
-      → Silent facts facts' s.number kind
-  no_other kind a b =
-      silent adds kind
-      (of_vote s.config (λ st. T (kind st) → ⊥) s.view s.number (suc s.prepared) r (a s.view (suc s.prepared) r) (b s.view (suc s.prepared) r))
-
   voting : Inv machine facts' (with_prepared s r commits) state
   voting =
-      let no_report = no_other is_report (λ v n r t. t) (λ v n r t. t) in
-      let no_reply = no_other is_reply (λ v n r t. t) (λ v n r t. t) in
+      let no_report = silent adds is_report (λ t. grind arith) in
+      let no_reply = silent adds is_reply (λ t. grind arith) in
       record {
         shape = search (arith, length-set {A = ℕ}, length-set {A = Request}, inv.shape);
         votes = votes;
@@ -96,7 +89,7 @@ module _ {machine : RequestMachine} {facts facts' : Facts machine} (s : State) (
         replies = replies_grow s.config adds.grows no_reply inv.replies;
         logs = logs_grow s.config adds.grows inv.logs;
         reports = reports_grow s.config adds.grows no_reply no_report inv.reports;
-        closings = closings_grow s.config adds.grows (no_other is_closing (λ v n r t. t) (λ v n r t. t)) inv.closings;
+        closings = closings_grow s.config adds.grows (silent adds is_closing (λ t. grind arith)) inv.closings;
         holds = holds_grow s.config adds.grows inv.holds;
         opens = opens_grow s.config adds.grows inv.opens;
       }
