@@ -110,10 +110,10 @@ module _ {machine : RequestMachine} {facts : Facts machine} (s : State) (state :
         }
 
 -- an accepted carry out keeps all
-pub carry_out_keeps : (sealed : ℕ → List ℕ → Bool) (fits : ℕ → Bool) (room : ℕ) (machine : RequestMachine) (facts facts' : Facts machine) (s : State) (state : machine.State)
-    → Inv machine facts s state → (s' : State) (effect : Effect) (statement : Option Statement) (answer : ℕ) → answer < 2 ^ 64
+pub carry_out_keeps : (sealed : ℕ → List ℕ → Bool) (fits : ℕ → Bool) (room : ℕ) {machine : RequestMachine} {facts facts' : Facts machine} {s : State} {state : machine.State}
+    → Inv machine facts s state → {s' : State} {effect : Effect} {statement : Option Statement} {answer : ℕ} → answer < 2 ^ 64
     → carry_out_step sealed fits room (λ r. (machine.step state r).1) s ≡ accepted s' effect statement answer → Keeps facts facts' s state s' effect statement
-carry_out_keeps sealed fits room machine facts facts' s state inv s' effect statement answer word e =
+carry_out_keeps sealed fits room {machine} {facts} {facts'} {s} {state} inv {s'} {effect} {statement} {answer} word e =
     let outcome = (machine.step state (next_request s)).1 in
     let says = reply s.view (s.executed + 1) (next_request s) outcome in
     let is : T (working s.phase) × (s.executed < s.prepared) × T (all_heard s s.executed) × (outcome ≡ answer)

@@ -89,10 +89,10 @@ module _ (machine : RequestMachine) (facts : Facts machine) (s : State) (state :
       }
 
 -- an accepted open keeps all
-pub open_keeps : (sealed : ℕ → List ℕ → Bool) (fits : ℕ → Bool) (room : ℕ) (machine : RequestMachine) (facts facts' : Facts machine) (s : State) (state : machine.State)
-    → Inv machine facts s state → (s' : State) (effect : Effect) (statement : Option Statement) (answer : ℕ) → facts'.Opened s.number s.view
+pub open_keeps : (sealed : ℕ → List ℕ → Bool) (fits : ℕ → Bool) (room : ℕ) {machine : RequestMachine} {facts facts' : Facts machine} {s : State} {state : machine.State}
+    → Inv machine facts s state → {s' : State} {effect : Effect} {statement : Option Statement} {answer : ℕ} → facts'.Opened s.number s.view
     → open_step sealed fits room s ≡ accepted s' effect statement answer → Keeps facts facts' s state s' effect statement
-open_keeps sealed fits room machine facts facts' s state inv s' effect statement answer opened e =
+open_keeps sealed fits room {machine} {facts} {facts'} {s} {state} inv {s'} {effect} {statement} {answer} opened e =
     let is : T (closed s.phase) × T (all_noted s) × T (holds_all s (named s))
     × (accepted (with_selection s (selects s) (choices s)) renew None (selects s) ≡ accepted s' effect statement answer) = grind arith in
     as_accepted (Keeps facts facts' s state) is.3

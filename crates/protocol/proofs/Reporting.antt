@@ -152,8 +152,16 @@ module _ (machine : RequestMachine) (facts facts' : Facts machine) (s : State) (
             (adds.new (report s.view (entries s)) refl) (rw long_entries inv.shape.few_logged) own_certified)
         go false is = reported_keeps Aside s.reports (λ t. t) (λ t. t) inv.shape.long_reports (λ t. absurd t) (holds_grow s.config adds.grows inv.holds)
 
-module _ (sealed : ℕ → List ℕ → Bool) (fits : ℕ → Bool) (room : ℕ) (machine : RequestMachine) (facts facts' : Facts machine) (s : State) (state : machine.State)
-    (inv : Inv machine facts s state) (s' : State) (effect : Effect) (statement : Option Statement) (answer : ℕ) where
+hold_keeps : {machine : RequestMachine} {facts : Facts machine} {s : State} {state : machine.State} → Inv machine facts s state → (g : ℕ) (es : List LogEntry) → g < replicas s.config → facts.Known g (report s.view es) → length es ≤ last_number
+    → Sound s.config facts s.view es
+    → Inv machine facts (with_report s s.phase g (as_held es)) state
+hold_keeps {machine} {facts} {s} inv g es inside known short certified =
+    let shape : Shape (with_report s s.phase g (as_held es)) = search (arith, length-set {A = Option HeldReport}, inv.shape) in
+    let holds = report_held machine facts s inv.shape inv.holds g (as_held es) es inside (take-append_seam es _) known short certified in
+    assumption
+
+module _ (sealed : ℕ → List ℕ → Bool) (fits : ℕ → Bool) (room : ℕ) {machine : RequestMachine} {facts facts' : Facts machine} {s : State} {state : machine.State}
+    (inv : Inv machine facts s state) {s' : State} {effect : Effect} {statement : Option Statement} {answer : ℕ} where
   pub report_keeps : report_step sealed fits room s ≡ accepted s' effect statement answer → Keeps facts facts' s state s' effect statement
   report_keeps e =
       let says = report s.view (entries s) in
@@ -166,16 +174,6 @@ module _ (sealed : ℕ → List ℕ → Bool) (fits : ℕ → Bool) (room : ℕ)
         keeps = λ adds. reporting_keeps machine facts facts' s state inv is.0 adds;
       })
 
-  -- ---- hearing a REPORT
-
-  hold_keeps : (g : ℕ) (es : List LogEntry) → g < replicas s.config → facts.Known g (report s.view es) → length es ≤ last_number
-      → Sound s.config facts s.view es
-      → Inv machine facts (with_report s s.phase g (as_held es)) state
-  hold_keeps g es inside known short certified =
-      let shape : Shape (with_report s s.phase g (as_held es)) = search (arith, length-set {A = Option HeldReport}, inv.shape) in
-      let holds = report_held machine facts s inv.shape inv.holds g (as_held es) es inside (take-append_seam es _) known short certified in
-      assumption
-
   -- a report is held only if no entry lacks its certificate
   pub hear_report_keeps : (knows : (x : ℕ) (st : Statement) → Made s.config sealed x st → facts.Known x st)
       → (g view : ℕ) (es : List LogEntry) → view ≡ s.view → Made s.config sealed g (report view es)
@@ -185,7 +183,7 @@ module _ (sealed : ℕ → List ℕ → Bool) (fits : ℕ → Bool) (room : ℕ)
       grind arith in
       let range = report_in_range s.config g view es made.0 in
       let kept =
-      hold_keeps g es (fits_parts s.config g (report view es) made.0).0 (rw same at (knows g (report view es) made)) range.0
+      hold_keeps inv g es (fits_parts s.config g (report view es) made.0).0 (rw same at (knows g (report view es) made)) range.0
       (λ k l. (rw same at (range.1 k blank_entry l), λ h inside grouped. knows h _ (certificates s.config sealed view es (rw same inv.shape.low_view) range is.0 k l h inside grouped)))
       in
       as_accepted (Keeps facts facts' s state) is.1

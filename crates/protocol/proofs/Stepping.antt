@@ -1,5 +1,6 @@
 -- Every accepted call of an honest replica keeps what it keeps, and leaves behind what it has to; no call alters a replica's number or config.
 use Rattle.std.proofs.Common.{◌≡◌, ℕ, ◌+◌, ◌-◌, ◌^◌, ◌<◌, Bool, true, false, cond, not, ◌&&◌, ◌||◌, T, eqb, ltb, leb, List, is_some, Some, None, Ok, Err, Option, Result, refl, arith, eqb→eq}
+use Rattle.std.proofs.lemmas.Bool.Decides.{nat_tests}
 use Rattle.wire.specs.declared.entry.LogEntry.{LogEntry}
 use Rattle.wire.specs.declared.fault.ReadFault.{ReadFault}
 use Rattle.wire.specs.declared.request.Request.{Request}
@@ -58,35 +59,17 @@ module _ (s : State) (sealed : ℕ → List ℕ → Bool) (fits : ℕ → Bool) 
 
 module _ (machine : RequestMachine) (facts facts' : Facts machine) (sealed : ℕ → List ℕ → Bool) (fits : ℕ → Bool) (room : ℕ) (s : State) (state : machine.State)
     (inv : Inv machine facts s state) (s' : State) (effect : Effect) (statement : Option Statement) (answer : ℕ) (adds : Adds facts facts' s.number statement) where
-  carries_leaves : (outcome : Request → ℕ) → carry_out_step sealed fits room outcome s ≡ accepted s' effect statement answer
-      → facts'.Known s.number (reply s.view (s.executed + 1) (next_request s) answer)
-  carries_leaves outcome e =
-      let a = needed (working s.phase) NotAllowed _ e in
-      let b = needed (ltb s.executed s.prepared) OutOfTurn _ a.1 in
-      let c = needed (all_heard s s.executed) TooFew _ b.1 in
-      let says = reply s.view (s.executed + 1) (next_request s) (outcome (next_request s)) in
-      let d = sealing sealed fits room says (with_executed s) (execute (next_request s)) (outcome (next_request s)) c.1 in
-      let is : statement ≡ Some says = cc in
-      let gives : outcome (next_request s) ≡ answer = cc in
-      rw (← gives) (adds.new says is)
-
   closes_leaves : close_step sealed fits room s ≡ accepted s' effect statement answer → Leaves s.config machine facts' s.number s closes answer
   closes_leaves e =
-      let a = needed (gathering s.phase) NotAllowed _ e in
-      let b = needed (leb (faults s.config + 1) (count (peers s) (holds s))) TooFew _ a.1 in
-      let says = closing s.view (held_mask s) in
-      let d = sealing sealed fits room says (with_closing s Closed s.number (held_mask s)) rest (size says) b.1 in
-      let is : statement ≡ Some says = cc in
-      record { mask = held_mask s; closed = adds.new says is; naming = λ x inside t. rw (mask_names_passing (peers s) (holds s) x inside) t }
+      let is : statement ≡ Some (closing s.view (held_mask s)) = grind arith in
+      record { mask = held_mask s; closed = adds.new _ is; naming = λ x inside t. rw (mask_names_passing (peers s) (holds s) x inside) t }
 
   opens_leaves : open_step sealed fits room s ≡ accepted s' effect statement answer → Leaves s.config machine facts' s.number s opens answer
-  opens_leaves e above =
-      let a = needed (closed s.phase) NotAllowed _ e in
-      closed_before_grows s.config adds.grows (inv.closings.closed (rw (is_closed s.phase a.0) tt) above)
+  opens_leaves e above = closed_before_grows s.config adds.grows (inv.closings.closed (grind arith) above)
 
   pub step_leaves : (outcome : Request → ℕ) (act : Act) → step sealed fits room outcome s act ≡ accepted s' effect statement answer
       → Leaves s.config machine facts' s.number s act answer
-  step_leaves outcome carries_out e = carries_leaves outcome e
+  step_leaves outcome carries_out e = grind (arith, adds.new)
   step_leaves outcome closes e = closes_leaves e
   step_leaves outcome opens e = opens_leaves e
   step_leaves outcome act e = tt
@@ -105,35 +88,32 @@ module _ (machine : RequestMachine) (facts facts' : Facts machine) (sealed : ℕ
   -- a message heard, by its kind
   kind_keeps : (g : ℕ) (st : Statement) → view_of st ≡ s.view → T (allows s st) → T (entitles s g st) → Made s.config sealed g st
       → hear_kind sealed fits room s g st ≡ accepted s' effect statement answer → Keeps facts facts' s state s' effect statement
-  kind_keeps g (prepare view number r) same allowed entitled made e =
-      hear_prepare_keeps sealed fits room machine facts facts' s state inv s' effect statement answer knows g view number r same made allowed entitled e
-  kind_keeps g (commit view number r) same allowed entitled made e =
-      hear_commit_keeps sealed fits room machine facts facts' s state inv s' effect statement answer knows g view number r same made allowed entitled e
-  kind_keeps g (doubt view) same allowed entitled made e = hear_doubt_keeps sealed fits room machine facts facts' s state inv s' effect statement answer e
-  kind_keeps g (report view es) same allowed entitled made e =
-      hear_report_keeps sealed fits room machine facts facts' s state inv s' effect statement answer knows g view es same made e
-  kind_keeps g (closing view mask) same allowed entitled made e =
-      hear_closing_keeps sealed fits room machine facts facts' s state inv s' effect statement answer knows g view mask same made e
+  kind_keeps g (prepare view number r) same allowed entitled made e = hear_prepare_keeps sealed fits room inv knows g view number r same made allowed entitled e
+  kind_keeps g (commit view number r) same allowed entitled made e = hear_commit_keeps sealed fits room inv knows g view number r same made allowed entitled e
+  kind_keeps g (doubt view) same allowed entitled made e = hear_doubt_keeps sealed fits room inv e
+  kind_keeps g (report view es) same allowed entitled made e = hear_report_keeps sealed fits room inv knows g view es same made e
+  kind_keeps g (closing view mask) same allowed entitled made e = hear_closing_keeps sealed fits room inv knows g view mask same made e
   kind_keeps g (reply view number r outcome) same allowed entitled made e = absurd allowed
+
+  checked : (a b c d : Bool) (verdict : Verdict)
+      → need a WrongView (need b NotAllowed (need c NotEntitled (need d (Register Unknown) verdict))) ≡ accepted s' effect statement answer
+      → T a × T b × T c × T d × (verdict ≡ accepted s' effect statement answer)
+  checked a b c d verdict e = grind arith
 
   hear_keeps : (bytes : List ℕ) → Bytes bytes → (read : Result Said ReadFault) → reading s.config bytes ≡ read
       → hear_read sealed fits room s bytes read ≡ accepted s' effect statement answer → Keeps facts facts' s state s' effect statement
-  hear_keeps bytes small (Err fault) reads e = absurd (refused_not (Read fault) s' effect statement answer e)
+  hear_keeps bytes small (Err fault) reads e = absurd (grind arith)
   hear_keeps bytes small (Ok said) reads e =
-      let one = needed (eqb (view_of said.statement) s.view) WrongView _ e in
-      let two = needed (allows s said.statement) NotAllowed _ one.1 in
-      let three = needed (entitles s said.replica said.statement) NotEntitled _ two.1 in
-      let four = needed (sealed said.replica bytes) (Register Unknown) _ three.1 in
-      kind_keeps said.replica said.statement (eqb→eq (view_of said.statement) s.view one.0) two.0 three.0
-      (made_heard s.config sealed bytes said small reads four.0) four.1
+      let is = checked _ _ _ _ _ e in
+      kind_keeps said.replica said.statement (eqb→eq _ s.view is.0) is.1 is.2 (made_heard s.config sealed bytes said small reads is.3) is.4
 
   pub step_keeps : (act : Act) → HeardBytes act → Shows facts' s act → step sealed fits room (λ r. (machine.step state r).1) s act ≡ accepted s' effect statement answer
       → Keeps facts facts' s state s' effect statement
-  step_keeps (orders r) heard shows e = order_keeps sealed fits room machine facts facts' s state inv s' effect statement answer r e
-  step_keeps repeats heard shows e = repeat_keeps sealed fits room machine facts facts' s state inv s' effect statement answer e
+  step_keeps (orders r) heard shows e = order_keeps sealed fits room inv r e
+  step_keeps repeats heard shows e = repeat_keeps sealed fits room inv e
   step_keeps (hears bytes) heard shows e = hear_keeps bytes heard (reading s.config bytes) refl e
-  step_keeps carries_out heard shows e = carry_out_keeps sealed fits room machine facts facts' s state inv s' effect statement answer word e
-  step_keeps doubts heard shows e = doubt_keeps sealed fits room machine facts facts' s state inv s' effect statement answer e
-  step_keeps reports heard shows e = report_keeps sealed fits room machine facts facts' s state inv s' effect statement answer e
-  step_keeps closes heard shows e = close_keeps sealed fits room machine facts facts' s state inv s' effect statement answer shows e
-  step_keeps opens heard shows e = open_keeps sealed fits room machine facts facts' s state inv s' effect statement answer shows e
+  step_keeps carries_out heard shows e = carry_out_keeps sealed fits room inv word e
+  step_keeps doubts heard shows e = doubt_keeps sealed fits room inv e
+  step_keeps reports heard shows e = report_keeps sealed fits room inv e
+  step_keeps closes heard shows e = close_keeps sealed fits room inv shows e
+  step_keeps opens heard shows e = open_keeps sealed fits room inv shows e

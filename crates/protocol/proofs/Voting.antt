@@ -107,18 +107,15 @@ hearing {machine} {facts} s state inv k commits below heard =
 
 -- ---- accepted calls
 
-module _ (sealed : ℕ → List ℕ → Bool) (fits : ℕ → Bool) (room : ℕ) (machine : RequestMachine) (facts facts' : Facts machine) (s : State) (state : machine.State)
+module _ (sealed : ℕ → List ℕ → Bool) (fits : ℕ → Bool) (room : ℕ) {machine : RequestMachine} {facts facts' : Facts machine} {s : State} {state : machine.State}
     (inv : Inv machine facts s state) where
-  abbrev Kept : State → Effect → Option Statement → Type 0
-  Kept s' effect statement = Keeps facts facts' s state s' effect statement
-
   -- a statement that is its vote for the next number
   vote_keeps : (works : T (working s.phase)) (below : s.prepared < last_number) (r : Request) (commits : ℕ)
       → (s.prepared < s.selected → r ≡ selected_at s s.prepared)
       → (st : Statement) → st ≡ vote s.config s.view s.number (suc s.prepared) r
       → (Adds facts facts' s.number (Some st) → facts'.Known (primary s.config s.view) (prepare s.view (suc s.prepared) r))
       → (Adds facts facts' s.number (Some st) → (g : ℕ) → g < replicas s.config → T (names commits g) → facts'.Known g (commit s.view (suc s.prepared) r))
-      → Kept (with_prepared s r commits) rest (Some st)
+      → Keeps facts facts' s state (with_prepared s r commits) rest (Some st)
   vote_keeps works below r commits selected st is led heard =
       record {
         in_range = rw is (fits_vote s.config s.number s.view (suc s.prepared) r inv.shape.inside inv.shape.low_view (omega arith) below);
@@ -127,31 +124,31 @@ module _ (sealed : ℕ → List ℕ → Bool) (fits : ℕ → Bool) (room : ℕ)
 
   -- the primary's vote is its PREPARE
   lead_keeps : T (working s.phase) → T (leads s) → s.prepared < last_number → (r : Request) → (s.prepared < s.selected → r ≡ selected_at s s.prepared)
-      → Kept (with_prepared s r 0) rest (Some (prepare s.view (s.prepared + 1) r))
+      → Keeps facts facts' s state (with_prepared s r 0) rest (Some (prepare s.view (s.prepared + 1) r))
   lead_keeps works leading below r selected =
       vote_keeps works below r 0 selected (prepare s.view (s.prepared + 1) r) (grind arith)
       (λ adds. rw (← eqb→eq s.number (primary s.config s.view) leading, ← add-one s.prepared) (adds.new _ refl))
       (λ adds g inside t. absurd (names_nothing g t))
 
-  module _ (s' : State) (effect : Effect) (statement : Option Statement) (answer : ℕ) where
-    pub order_keeps : (r : Request) → order_step sealed fits room s r ≡ accepted s' effect statement answer → Kept s' effect statement
+  module _ {s' : State} {effect : Effect} {statement : Option Statement} {answer : ℕ} where
+    pub order_keeps : (r : Request) → order_step sealed fits room s r ≡ accepted s' effect statement answer → Keeps facts facts' s state s' effect statement
     order_keeps r e =
         let is : T (working s.phase) × T (leads s) × (s.selected ≤ s.prepared) × (s.prepared < last_number)
         × (accepted (with_prepared s r 0) rest (Some (prepare s.view (s.prepared + 1) r)) (s.prepared + 1) ≡ accepted s' effect statement answer) =
         grind (arith, nat_tests) in
-        as_accepted Kept is.4 (lead_keeps is.0 is.1 is.3 r (λ l. absurd (omega arith)))
+        as_accepted (Keeps facts facts' s state) is.4 (lead_keeps is.0 is.1 is.3 r (λ l. absurd (omega arith)))
 
-    pub repeat_keeps : repeat_step sealed fits room s ≡ accepted s' effect statement answer → Kept s' effect statement
+    pub repeat_keeps : repeat_step sealed fits room s ≡ accepted s' effect statement answer → Keeps facts facts' s state s' effect statement
     repeat_keeps e =
         let r = selected_at s s.prepared in
         let is : T (working s.phase) × T (leads s) × (s.prepared < last_number)
         × (accepted (with_prepared s r 0) rest (Some (prepare s.view (s.prepared + 1) r)) (s.prepared + 1) ≡ accepted s' effect statement answer) =
         grind (arith, nat_tests) in
-        as_accepted Kept is.3 (lead_keeps is.0 is.1 is.2 r (λ l. refl))
+        as_accepted (Keeps facts facts' s state) is.3 (lead_keeps is.0 is.1 is.2 r (λ l. refl))
 
     pub hear_prepare_keeps : (knows : (x : ℕ) (st : Statement) → Made s.config sealed x st → facts.Known x st) (g view number : ℕ) (r : Request) → view ≡ s.view
         → Made s.config sealed g (prepare view number r) → T (allows s (prepare view number r)) → T (entitles s g (prepare view number r))
-        → hear_prepare sealed fits room s number r ≡ accepted s' effect statement answer → Kept s' effect statement
+        → hear_prepare sealed fits room s number r ≡ accepted s' effect statement answer → Keeps facts facts' s state s' effect statement
     hear_prepare_keeps knows g view number r same_view made allowed entitled e =
         let says = commit s.view number r in
         let is : (number ≡ suc s.prepared) × (s.prepared < s.selected → r ≡ selected_at s s.prepared)
@@ -160,14 +157,14 @@ module _ (sealed : ℕ → List ℕ → Bool) (fits : ℕ → Bool) (room : ℕ)
         let numbered = is.0 in
         let in_range : number ≤ last_number = grind (arith, nat_tests, made.0) in
         let from = eqb→eq g (primary s.config s.view) entitled in
-        as_accepted Kept is.2
+        as_accepted (Keeps facts facts' s state) is.2
         (vote_keeps (grind arith) (omega arith) r (2 ^ s.number) is.1 says (grind arith)
         (λ adds. rw (← from, ← same_view, ← numbered) (adds.grows.known g _ (knows g _ made)))
         (λ adds x inside t. rw (← names_one s.number x t, ← numbered) (adds.new _ refl)))
 
     pub hear_commit_keeps : (knows : (x : ℕ) (st : Statement) → Made s.config sealed x st → facts.Known x st) (g view number : ℕ) (r : Request) → view ≡ s.view
         → Made s.config sealed g (commit view number r) → T (allows s (commit view number r)) → T (entitles s g (commit view number r))
-        → hear_commit sealed fits room s g number r ≡ accepted s' effect statement answer → Kept s' effect statement
+        → hear_commit sealed fits room s g number r ≡ accepted s' effect statement answer → Keeps facts facts' s state s' effect statement
     hear_commit_keeps knows g view number r same_view made allowed entitled e =
         let commits = bit_or (commits_at s (number - 1)) (2 ^ g) in
         let is : (number ≤ s.prepared) × (r ≡ prepared_at s (number - 1))
@@ -175,7 +172,7 @@ module _ (sealed : ℕ → List ℕ → Bool) (fits : ℕ → Bool) (room : ℕ)
         grind (arith, nat_tests, same_equal r (prepared_at s (number - 1))) in
         let numbered : number ≡ suc (number - 1) = grind (arith, nat_tests, made.0) in
         let told = knows g _ made in
-        as_accepted Kept is.2
+        as_accepted (Keeps facts facts' s state) is.2
         (record {
           in_range = tt;
           keeps = λ adds.
