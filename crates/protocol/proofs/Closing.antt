@@ -15,10 +15,8 @@ use Rattle.protocol.specs.Replay.{RequestMachine}
 use Rattle.protocol.specs.Selecting.{peers, holds, held_mask, holds_all}
 use Rattle.protocol.specs.States.{gathering, held, with_closing}
 use Rattle.protocol.specs.Steps.{Effect, rest, accepted, close_step, hear_closing}
-use Rattle.protocol.proofs.Quorum.{both_pass}
-use Rattle.protocol.proofs.Tests.{needed, sealing, as_accepted}
+use Rattle.protocol.proofs.Tests.{as_accepted}
 use Rattle.protocol.proofs.Masks.{mask_small, mask_count}
-use Rattle.protocol.proofs.Known.{fits_parts, fits_closing}
 use Rattle.protocol.proofs.Parts.{Shape, Holds, Inv}
 use Rattle.protocol.proofs.Grow.{Adds, Keeps, silent, is_vote, is_reply, is_report, votes_grow, replies_grow, logs_grow, reports_grow, holds_grow, inv_adds}
 use Rattle.std.proofs.lemmas.Bool.Decides.{nat_tests}
@@ -69,4 +67,4 @@ module _ (sealed : ℕ → List ℕ → Bool) (fits : ℕ → Bool) (room : ℕ)
   hear_closing_keeps knows g view mask same made e =
       let is : accepted (with_closing s s.phase g mask) rest None 0 ≡ accepted s' effect statement answer = grind arith in
       as_accepted (Keeps facts facts' s state) is
-      (record { in_range = tt; keeps = λ adds. inv_adds adds (λ t. t) (note_keeps inv g mask (fits_parts s.config g (closing view mask) made.0).0 (rw same at (knows g _ made))) })
+      (record { in_range = tt; keeps = λ adds. inv_adds adds (λ t. t) (note_keeps inv g mask (grind (arith, nat_tests, made.0)) (rw same at (knows g _ made))) })

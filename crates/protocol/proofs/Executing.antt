@@ -15,9 +15,8 @@ use Rattle.protocol.specs.Rules.{Certified, one_more, Replied}
 use Rattle.protocol.specs.States.{blank_entry, working, commits_at, next_request, with_executed}
 use Rattle.protocol.specs.Steps.{Effect, execute, accepted, all_heard, carry_out_step}
 use Rattle.protocol.proofs.Grow.{Adds, Silent, Keeps, silent, is_vote, is_report, is_closing, certified_grows, executed_grows, replied_grows, votes_grow, logs_grow, prepares_grow, closings_grow, holds_grow, opens_grow}
-use Rattle.protocol.proofs.Known.{fits_reply}
 use Rattle.protocol.proofs.Parts.{Executes, Replies, Logs, Reports, Inv}
-use Rattle.protocol.proofs.Tests.{needed, sealing, as_accepted, every_at}
+use Rattle.protocol.proofs.Tests.{as_accepted, every_at}
 
 module _ {machine : RequestMachine} {facts : Facts machine} (s : State) (state : machine.State) (inv : Inv machine facts s state)
     (works : T (working s.phase)) (below : s.executed < s.prepared) (heard : T (all_heard s s.executed)) where
@@ -120,8 +119,6 @@ carry_out_keeps sealed fits room {machine} {facts} {facts'} {s} {state} inv {s'}
     × (accepted (with_executed s) (execute (next_request s)) (Some says) outcome ≡ accepted s' effect statement answer) = grind (arith, nat_tests) in
     as_accepted (Keeps facts facts' s state) is.4
     (record {
-      in_range =
-          fits_reply s.config s.number s.view (s.executed + 1) (next_request s) outcome inv.shape.inside inv.shape.low_view (omega arith)
-          (omega (arith, inv.shape.few_prepared)) (omega arith);
+      in_range = grind (arith, nat_tests, inv.shape);
       keeps = λ adds. executing s state inv is.0 is.1 is.2 (rw (add-one s.executed) at adds);
     })

@@ -14,7 +14,6 @@ use Rattle.protocol.specs.Rules.{Certified, Backed, Executed, nothing, one_more,
 use Rattle.protocol.specs.Steps.{Effect}
 use Rattle.protocol.specs.Verdicts.{used}
 use Rattle.protocol.specs.Votes.{vote}
-use Rattle.protocol.proofs.Tests.{or_left, or_right}
 use Rattle.protocol.proofs.Parts.{Votes, Prepares, Executes, Replies, Logs, Reports, Closings, Holds, Opens, Inv}
 
 -- ---- kinds of statements

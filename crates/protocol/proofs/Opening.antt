@@ -21,7 +21,7 @@ use Rattle.protocol.specs.Steps.{Effect, renew, accepted, all_noted, open_step}
 use Rattle.protocol.proofs.Choosing.{counted, counts_held, picks, selects_past, choices_at}
 use Rattle.protocol.proofs.Grow.{Keeps, inv_adds}
 use Rattle.protocol.proofs.Parts.{Inv}
-use Rattle.protocol.proofs.Tests.{then_passes, every_at, all_at, any_in, needed, as_accepted}
+use Rattle.protocol.proofs.Tests.{every_at, all_at, any_in, as_accepted}
 
 -- what an option has
 the_some : {A : Type 0} (o : Option A) → T (is_some o) → (a : A) × (o ≡ Some a)
@@ -52,7 +52,7 @@ module _ (machine : RequestMachine) (facts : Facts machine) (s : State) (state :
   heeded : (k : ℕ) (r : Request) → (k < selects s → r ≡ get_or (choices s) k blank) → (x : ℕ) → x < peers s → T (named s x)
       → Heeded s.config machine facts s.view (suc k) r x
   heeded k r select x l t =
-      let there = the_some (held s x) (then_passes (named s x) (holds s x) (all_at (peers s) (λ x. not (named s x) || holds s x) holding x l) t) in
+      let there = the_some (held s x) (grind (arith, all_at (peers s) (λ x. not (named s x) || holds s x) holding x l)) in
       record {
         entries = there.0;
         reported = inv.holds.reported x there.0 there.1;

@@ -1,5 +1,6 @@
 -- Reporting, and holding a report that is heard, keep what an honest replica keeps: a report that is held has a certificate for each entry.
 use Rattle.std.proofs.Common.{◌≡◌, ℕ, zero, suc, ◌+◌, ◌<◌, ◌≤◌, Bool, true, false, cond, not, T, List, [], ◌∷◌, length, get_or, take, set, Some, None, Option, sym, refl, ◌∙◌, subst, ⊎_elim, not-suc-le-zero, add-zero, arith, length-set, length-take-le, get_or-take}
+use Rattle.std.proofs.lemmas.Bool.Decides.{nat_tests}
 use Rattle.std.proofs.lemmas.Grind.{elements}
 use lib.Dec.{not_T}
 use lib.Seq.{take-append_seam}
@@ -25,9 +26,9 @@ use Rattle.protocol.specs.Selecting.{holds}
 use Rattle.protocol.specs.States.{blank_entry, most_replicas, working, turning, active, entries, entries_in, held, noted, changed_to, as_held, with_report, reported}
 use Rattle.protocol.specs.Steps.{Effect, rest, accepted, report_step, hold, hear_report}
 use Rattle.protocol.specs.Votes.{vote}
-use Rattle.protocol.proofs.Tests.{refused_not, needed, sealing, as_accepted, every_at}
+use Rattle.protocol.proofs.Tests.{as_accepted, every_at}
 use Rattle.protocol.proofs.Lists.{has_entry}
-use Rattle.protocol.proofs.Known.{fits_parts, fits_vote, fits_report, report_in_range}
+use Rattle.protocol.proofs.Known.{fits_vote, fits_report, report_in_range}
 use Rattle.protocol.proofs.Parts.{has_closed, serving, Shape, Reports, Holds, Inv}
 use Rattle.protocol.proofs.Grow.{Adds, Keeps, silent, is_vote, is_reply, is_closing, certified_grows, votes_grow, replies_grow, logs_grow, closings_grow, holds_grow, inv_adds}
 
@@ -183,7 +184,7 @@ module _ (sealed : ℕ → List ℕ → Bool) (fits : ℕ → Bool) (room : ℕ)
       grind arith in
       let range = report_in_range s.config g view es made.0 in
       let kept =
-      hold_keeps inv g es (fits_parts s.config g (report view es) made.0).0 (rw same at (knows g (report view es) made)) range.0
+      hold_keeps inv g es (grind (arith, nat_tests, made.0)) (rw same at (knows g (report view es) made)) range.0
       (λ k l. (rw same at (range.1 k blank_entry l), λ h inside grouped. knows h _ (certificates s.config sealed view es (rw same inv.shape.low_view) range is.0 k l h inside grouped)))
       in
       as_accepted (Keeps facts facts' s state) is.1

@@ -28,7 +28,6 @@ use Rattle.protocol.proofs.History.{Leaves}
 use Rattle.protocol.proofs.Known.{made_heard}
 use Rattle.protocol.proofs.Masks.{mask_names_passing}
 use Rattle.protocol.proofs.Parts.{Inv}
-use Rattle.protocol.proofs.Tests.{refused_not, needed, sealing}
 use Rattle.protocol.proofs.Voting.{order_keeps, repeat_keeps, hear_prepare_keeps, hear_commit_keeps}
 use Rattle.protocol.proofs.Executing.{carry_out_keeps}
 use Rattle.protocol.proofs.Turning.{doubt_keeps, hear_doubt_keeps}

@@ -10,7 +10,6 @@ use Rattle.protocol.specs.Replay.{RequestMachine}
 use Rattle.protocol.specs.States.{turned}
 use Rattle.protocol.specs.Steps.{Effect, rest, accepted, doubt_step, hear_doubt}
 use Rattle.protocol.proofs.Tests.{as_accepted}
-use Rattle.protocol.proofs.Known.{fits_doubt}
 use Rattle.protocol.proofs.Parts.{Inv}
 use Rattle.protocol.proofs.Grow.{Keeps, inv_adds}
 
@@ -26,7 +25,7 @@ module _ (sealed : ℕ → List ℕ → Bool) (fits : ℕ → Bool) (room : ℕ)
       grind (arith, nat_tests) in
       as_accepted (Keeps facts facts' s state) is.1
       (record {
-        in_range = fits_doubt s.config s.number s.view inv.shape.inside inv.shape.low_view;
+        in_range = grind (arith, nat_tests, inv.shape);
         keeps = λ adds. inv_adds adds (λ t. t) (turn_keeps inv is.0);
       })
 

@@ -21,11 +21,10 @@ use Rattle.protocol.specs.States.{blank, working, leads, prepared_at, selected_a
 use Rattle.protocol.specs.Steps.{Effect, rest, accepted, same, allows, entitles, order_step, repeat_step, hear_prepare, hear_commit}
 use Rattle.protocol.specs.Votes.{vote}
 use Rattle.protocol.proofs.Grow.{Adds, Silent, Keeps, silent, is_report, is_closing, is_reply, chosen_grows, executes_grow, replies_grow, logs_grow, reports_grow, closings_grow, holds_grow, opens_grow, inv_adds}
-use Rattle.protocol.proofs.Known.{vote_primary, vote_follower, of_vote, vote_equal, fits_vote, vote_fits}
+use Rattle.protocol.proofs.Known.{fits_vote}
 use Rattle.protocol.proofs.Masks.{names_more}
 use Rattle.protocol.proofs.Parts.{Shape, Votes, Prepares, Inv}
-use Rattle.protocol.proofs.Quorum.{each_passes}
-use Rattle.protocol.proofs.Tests.{needed, sealing, as_accepted, last_or_below, one_passes, same_equal}
+use Rattle.protocol.proofs.Tests.{as_accepted, last_or_below, same_equal}
 
 -- the empty mask names none, and that of one bit one
 names_nothing : (g : ℕ) → T (names 0 g) → ⊥
@@ -50,7 +49,7 @@ module _ {machine : RequestMachine} {facts facts' : Facts machine} (s : State) (
   Which v n r' = facts.Known s.number (vote s.config v s.number n r') ⊎ ((v ≡ s.view) × (n ≡ suc s.prepared) × (r' ≡ r))
 
   which : (v n : ℕ) (r' : Request) → facts'.Known s.number (vote s.config v s.number n r') → Which v n r'
-  which v n r' k = ⊎_elim inl (λ e. inr (vote_equal s.config v s.view s.number n (suc s.prepared) r' r (cc))) (adds.only _ k)
+  which v n r' k = grind (arith, adds.only _ k)
 
   -- an earlier vote is for another number of the view
   not_both : (n : ℕ) (r' : Request) → n ≡ suc s.prepared → facts.Known s.number (vote s.config s.view s.number n r') → ⊥
