@@ -40,6 +40,9 @@ accepted_last : {h : ℕ} {act : Act} {s : State} {answer : ℕ} (x : Deed) (ds 
     → Accepted ds h act s answer ⊎ IsCall x h act s answer
 accepted_last x ds a = grind (arith, among_last _ x ds a.done)
 
+pub accepted_new : {h : ℕ} {act : Act} {s : State} {answer : ℕ} (x : Deed) (ds : List Deed) → IsCall x h act s answer → Accepted (ds ++ x ∷ []) h act s answer
+accepted_new x ds is = record { room = is.0; done = subst (λ (d : Deed). Among d (ds ++ x ∷ [])) is.1 (among_new x ds) }
+
 module _ (config : ClusterConfig) (machine : RequestMachine) (byzantine : ℕ → Bool) (ds : List Deed) (c : Cluster machine.State) (x : Deed) (d : Cluster machine.State) where
   abbrev before : Facts machine
   before = facts_of config machine byzantine ds c

@@ -18,7 +18,7 @@ use Rattle.protocol.proofs.Grow.{Adds, InRange, Keeps, inv_adds}
 use Rattle.protocol.proofs.History.{Leaves, IsCall, among_more, among_new}
 use Rattle.protocol.proofs.Known.{made_kept, made_by_others}
 use Rattle.protocol.proofs.Stepping.{SamePlace, step_same, step_leaves, step_keeps}
-use Rattle.protocol.proofs.Clusters.{Kept, still_kept, shows, adding, moved_kept}
+use Rattle.protocol.proofs.Clusters.{Kept, still_kept, call_kept}
 use Rattle.protocol.proofs.Starting.{new_kept}
 
 err_not_ok : {fault : ReplicaFault} {a : ℕ} → ◌≡◌ {A = Result ℕ ReplicaFault} (Err fault) (Ok a) → ⊥
@@ -35,56 +35,6 @@ pass_not true t n = n
 pass_not false t n = t
 
 module _ (config : ClusterConfig) (machine : RequestMachine) (byzantine : ℕ → Bool) where
-  call_kept : (ds : List Deed) (c : Cluster machine.State) (kept : Kept config machine byzantine ds c) (at room given : ℕ) (act : Act) (node : Node machine.State)
-      (found : slice_get c.nodes at ≡ Some node) (answer : Result ℕ ReplicaFault) (d : Cluster machine.State) → Word answer → HeardBytes act
-      → (verdict : Verdict) → step c.sealed c.fits room (λ r. (machine.step node.machine r).1) node.state act ≡ verdict
-      → answer ≡ answer_of verdict
-      → d.nodes ≡ set c.nodes at (record { state = state_after node.state verdict; machine = machine_after machine node.machine verdict })
-      → d.sealed ≡ sealed_after c.sealed node.state.number verdict
-      → Kept config machine byzantine (ds ++ record { event = call at given act; was = Some node.state; gave = answer } ∷ []) d
-  call_kept ds c kept at room given act node found answer d word heard (refused fault) judges answers nodes sealing =
-      moved_kept config machine byzantine ds c kept at act node found answer d given (refused fault) nodes sealing tt
-      (λ honest.
-      inv_adds (adding config machine byzantine ds c kept at act node found answer d given (refused fault) nodes sealing tt) (λ t. t) (kept.keeps at node found honest))
-      (λ honest a is. absurd (err_not_ok (sym answers ∙ is)))
-  call_kept ds c kept at room given act node found answer d word heard (accepted s' effect statement a) judges answers nodes sealing =
-      moved_kept config machine byzantine ds c kept at act node found answer d given (accepted s' effect statement a) nodes sealing
-      (subst (SamePlace node.state) judges (step_same node.state c.sealed c.fits room (λ r. (machine.step node.machine r).1) act))
-      (λ honest. (kept_now honest).keeps (adds_now honest))
-      (λ honest a' is.
-      let same : a ≡ a' = ok_equal a a' (sym answers ∙ is) in
-      subst (λ (u : ℕ). Leaves config machine now at node.state act u) same
-      (subst (λ (h : ℕ). Leaves config machine now h node.state act a) named.0
-      (subst (λ (k : ClusterConfig). Leaves k machine now node.state.number node.state act a) named.1
-      (step_leaves machine was now c.sealed c.fits room node.state node.machine (kept.keeps at node found honest) s' effect statement a (adds_now honest)
-      (λ r. (machine.step node.machine r).1) act judges))))
-    where
-      deed : Deed
-      deed = record { event = call at given act; was = Some node.state; gave = answer }
-
-      was : Facts machine
-      was = facts_of config machine byzantine ds c
-
-      now : Facts machine
-      now = facts_of config machine byzantine (ds ++ deed ∷ []) d
-
-      named : (node.state.number ≡ at) × (node.state.config ≡ config)
-      named = kept.placed at node found
-
-      is_deed : IsCall deed node.state.number act node.state a
-      is_deed = (given, rw (named.0, answers))
-
-      kept_now : T (not (byzantine at)) → Keeps was now node.state node.machine s' effect statement
-      kept_now honest =
-          step_keeps machine was now c.sealed c.fits room node.state node.machine (kept.keeps at node found honest)
-          (λ x st. subst (λ (k : ClusterConfig). Made k c.sealed x st) named.1) s' effect statement a (subst Word answers word) act heard
-          (shows config machine byzantine ds deed d node.state act a is_deed) judges
-
-      adds_now : T (not (byzantine at)) → Adds was now node.state.number statement
-      adds_now honest =
-          adding config machine byzantine ds c kept at act node found answer d given (accepted s' effect statement a) nodes sealing
-          (subst (λ (k : ClusterConfig). InRange k node.state.number statement) named.1 (kept_now honest).in_range)
-
   event_kept : (ds : List Deed) (c : Cluster machine.State) → Kept config machine byzantine ds c → (e : Event) (answer : Result ℕ ReplicaFault) (d : Cluster machine.State)
       → Happens machine c e answer d → Covers byzantine (ds ++ record { event = e; was = caller machine c e; gave = answer } ∷ [])
       → Kept config machine byzantine (ds ++ record { event = e; was = caller machine c e; gave = answer } ∷ []) d
@@ -100,7 +50,7 @@ module _ (config : ClusterConfig) (machine : RequestMachine) (byzantine : ℕ �
       go (Some node) found =
           subst (λ (was : Option State). Kept config machine byzantine (ds ++ record { event = call at room act; was = was; gave = answer } ∷ []) d)
           (sym (ap (option_map (λ node. node.state)) found))
-          (call_kept ds c kept at (min room (length c.out)) room act node found answer d happens.word happens.sayable _ refl
+          (call_kept config machine byzantine ds c kept at (min room (length c.out)) room act node found answer d happens.word happens.sayable _ refl
           (happens.answers ∙ ap (λ p. (called machine c at room act p).answer) found)
           (happens.nodes ∙ ap (λ p. (called machine c at room act p).nodes) found)
           (happens.sealed ∙ ap (λ p. (called machine c at room act p).sealed) found))

@@ -23,6 +23,7 @@ use Rattle.protocol.specs.Runs.{HeardBytes}
 use Rattle.protocol.specs.Selecting.{peers, holds, held_mask, holds_all, named}
 use Rattle.protocol.specs.States.{working, turning, gathering, closed, active, leads, prepared_at, selected_at, commits_at, next_request, entries, noted, with_prepared, with_executed, turned, with_closing, reported}
 use Rattle.protocol.specs.Steps.{Effect, rest, execute, Verdict, refused, accepted, need, same, allows, entitles, all_heard, all_noted, seals, hold, hear_kind, hear_read, carry_out_step, close_step, open_step, Act, orders, repeats, hears, carries_out, doubts, reports, closes, opens, step}
+use Rattle.protocol.specs.Verdicts.{state_after}
 use Rattle.protocol.proofs.Grow.{Adds, Keeps, closed_before_grows}
 use Rattle.protocol.proofs.History.{Leaves}
 use Rattle.protocol.proofs.Known.{made_heard}
@@ -39,15 +40,14 @@ use Rattle.protocol.proofs.Opening.{is_closed, open_keeps}
 
 -- a verdict leaves them as they are
 abbrev pub SamePlace : State → Verdict → Type 0
-SamePlace s (refused fault) = Unit {0}
-SamePlace s (accepted s' effect statement answer) = (s'.number ≡ s.number) × (s'.config ≡ s.config)
+SamePlace s verdict = ((state_after s verdict).number ≡ s.number) × ((state_after s verdict).config ≡ s.config)
 
 module _ (s : State) (sealed : ℕ → List ℕ → Bool) (fits : ℕ → Bool) (room : ℕ) where
   kind_same : (g : ℕ) (st : Statement) → SamePlace s (hear_kind sealed fits room s g st)
   kind_same g st = grind arith
 
   read_same : (bytes : List ℕ) (read : Result Said ReadFault) → SamePlace s (hear_read sealed fits room s bytes read)
-  read_same bytes (Err fault) = tt
+  read_same bytes (Err fault) = (refl, refl)
   read_same bytes (Ok said) = grind (arith, kind_same said.replica said.statement)
 
   pub step_same : (outcome : Request → ℕ) (act : Act) → SamePlace s (step sealed fits room outcome s act)
