@@ -21,19 +21,6 @@ use Rattle.protocol.proofs.Stepping.{SamePlace, step_same, step_leaves, step_kee
 use Rattle.protocol.proofs.Clusters.{Kept, still_kept, call_kept}
 use Rattle.protocol.proofs.Starting.{new_kept}
 
-err_not_ok : {fault : ReplicaFault} {a : ℕ} → ◌≡◌ {A = Result ℕ ReplicaFault} (Err fault) (Ok a) → ⊥
-err_not_ok e = let z : ◌≡◌ {A = ℕ} 0 1 = cc in omega arith
-
-ok_equal : (a b : ℕ) → ◌≡◌ {A = Result ℕ ReplicaFault} (Ok a) (Ok b) → a ≡ b
-ok_equal a b e = cc
-
-seal_no_call : {h at room : ℕ} {bytes : List ℕ} {act : Act} → byzantine_seal h bytes ≡ call at room act → ⊥
-seal_no_call e = let z : ◌≡◌ {A = ℕ} 0 1 = cc in omega arith
-
-pass_not : (b : Bool) → T b → T (not b) → ⊥
-pass_not true t n = n
-pass_not false t n = t
-
 module _ (config : ClusterConfig) (machine : RequestMachine) (byzantine : ℕ → Bool) where
   event_kept : (ds : List Deed) (c : Cluster machine.State) → Kept config machine byzantine ds c → (e : Event) (answer : Result ℕ ReplicaFault) (d : Cluster machine.State)
       → Happens machine c e answer d → Covers byzantine (ds ++ record { event = e; was = caller machine c e; gave = answer } ∷ [])
@@ -45,8 +32,7 @@ module _ (config : ClusterConfig) (machine : RequestMachine) (byzantine : ℕ �
       go None found =
           still_kept config machine byzantine ds c kept _ d (happens.nodes ∙ ap (λ p. (called machine c at room act p).nodes) found)
           (λ h act' s a is. none-some s (sym (ap (option_map (λ node. node.state)) found) ∙ ap (λ (x : Deed). x.was) is.1))
-          (λ g st. subst (λ (f : ℕ → List ℕ → Bool). Made config f g st) (sym (happens.sealed ∙ ap (λ p. (called machine c at room act p).sealed) found)))
-          (λ g honest st. subst (λ (f : ℕ → List ℕ → Bool). Made config f g st) (happens.sealed ∙ ap (λ p. (called machine c at room act p).sealed) found))
+          (λ g st made. rw (happens.sealed, found) made) (λ g honest st made. rw (happens.sealed, found) at made)
       go (Some node) found =
           subst (λ (was : Option State). Kept config machine byzantine (ds ++ record { event = call at room act; was = was; gave = answer } ∷ []) d)
           (sym (ap (option_map (λ node. node.state)) found))
@@ -56,12 +42,10 @@ module _ (config : ClusterConfig) (machine : RequestMachine) (byzantine : ℕ �
           (happens.sealed ∙ ap (λ p. (called machine c at room act p).sealed) found))
   event_kept ds c kept (byzantine_seal h bytes) answer d happens covers =
       still_kept config machine byzantine ds c kept _ d happens.nodes
-      (λ g act s a is. seal_no_call (ap (λ (x : Deed). x.event) is.1))
-      (λ g st made. subst (λ (f : ℕ → List ℕ → Bool). Made config f g st) (sym happens.sealed) (more (c.sealed h bytes || c.fits (length bytes)) g st made))
+      (λ g act s a is. let event = ap (λ (x : Deed). x.event) is.1 in cc)
+      (λ g st made. rw happens.sealed (more (c.sealed h bytes || c.fits (length bytes)) g st made))
       (λ g honest st made.
-      less (c.sealed h bytes || c.fits (length bytes)) g st
-      (λ is. pass_not (byzantine g) (subst (λ (x : ℕ). T (byzantine x)) (sym is) (covers h bytes answer (among_new _ ds))) honest)
-      (subst (λ (f : ℕ → List ℕ → Bool). Made config f g st) happens.sealed made))
+      less (c.sealed h bytes || c.fits (length bytes)) g st (λ is. grind (arith, covers h bytes answer (among_new _ ds))) (rw happens.sealed at made))
     where
       more : (taken : Bool) (g : ℕ) (st : Statement) → Made config c.sealed g st → Made config (cond taken (added c.sealed h bytes) c.sealed) g st
       more true g st made = made_kept config c.sealed h bytes g st made
