@@ -30,16 +30,13 @@ module _ (config : ClusterConfig) (machine : RequestMachine) (byzantine : ℕ �
       go : (place : Option (Node machine.State)) → slice_get c.nodes at ≡ place
           → Kept config machine byzantine (ds ++ record { event = call at room act; was = caller machine c (call at room act); gave = answer } ∷ []) d
       go None found =
-          still_kept config machine byzantine ds c kept _ d (happens.nodes ∙ ap (λ p. (called machine c at room act p).nodes) found)
-          (λ h act' s a is. none-some s (sym (ap (option_map (λ node. node.state)) found) ∙ ap (λ (x : Deed). x.was) is.1))
+          still_kept config machine byzantine ds c kept _ d (rw found at happens.nodes)
+          (λ h act' s a is. none-some s (rw found at (ap (λ (x : Deed). x.was) is.1)))
           (λ g st made. rw (happens.sealed, found) made) (λ g honest st made. rw (happens.sealed, found) at made)
       go (Some node) found =
-          subst (λ (was : Option State). Kept config machine byzantine (ds ++ record { event = call at room act; was = was; gave = answer } ∷ []) d)
-          (sym (ap (option_map (λ node. node.state)) found))
+          rw found
           (call_kept config machine byzantine ds c kept at (min room (length c.out)) room act node found answer d happens.word happens.sayable _ refl
-          (happens.answers ∙ ap (λ p. (called machine c at room act p).answer) found)
-          (happens.nodes ∙ ap (λ p. (called machine c at room act p).nodes) found)
-          (happens.sealed ∙ ap (λ p. (called machine c at room act p).sealed) found))
+          (rw found at happens.answers) (rw found at happens.nodes) (rw found at happens.sealed))
   event_kept ds c kept (byzantine_seal h bytes) answer d happens covers =
       still_kept config machine byzantine ds c kept _ d happens.nodes
       (λ g act s a is. let event = ap (λ (x : Deed). x.event) is.1 in cc)
