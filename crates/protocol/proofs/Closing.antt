@@ -1,18 +1,15 @@
 -- Closing, and noting a closing that is heard, keep what an honest replica keeps: a closing names reports that are held.
-use Rattle.std.proofs.Common.{◌≡◌, ℕ, ◌+◌, ◌^◌, ◌<◌, ◌≤◌, Bool, not, T, ltb, leb, List, length, set, is_some, Some, Option, get_or, None, refl, ◌∙◌, subst, ⊎_elim, arith, le→leb, lt→ltb, leb→le, length-set}
+use Rattle.std.proofs.Common.{◌≡◌, ℕ, ◌+◌, ◌<◌, ◌≤◌, Bool, T, List, set, Some, Option, get_or, None, arith, length-set}
 use Rattle.wire.specs.Configs.{faults, replicas}
-use Rattle.wire.specs.Counting.{count, names}
-use Rattle.wire.specs.Reading.{may_close}
+use Rattle.wire.specs.Counting.{count}
 use Rattle.wire.specs.Statements.{Statement, closing}
-use Rattle.groups.specs.Groups.{member}
-use Rattle.protocol.specs.declared.fault.ReplicaFault.TheVariants.{NotAllowed, TooFew, HeardBefore, ReportNotHeld}
 use Rattle.protocol.specs.declared.state.Phase.TheVariants.{Closed}
 use Rattle.protocol.specs.declared.state.State.{State}
 use Rattle.protocol.specs.Certificates.{size}
 use Rattle.protocol.specs.Facts.{Facts}
 use Rattle.protocol.specs.Receipts.{Made}
 use Rattle.protocol.specs.Replay.{RequestMachine}
-use Rattle.protocol.specs.Selecting.{peers, holds, held_mask, holds_all}
+use Rattle.protocol.specs.Selecting.{peers, holds, held_mask}
 use Rattle.protocol.specs.States.{gathering, held, with_closing}
 use Rattle.protocol.specs.Steps.{Effect, rest, accepted, close_step, hear_closing}
 use Rattle.protocol.proofs.Tests.{as_accepted}

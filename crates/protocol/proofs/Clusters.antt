@@ -8,12 +8,12 @@ use Rattle.wire.specs.Configs.{replicas}
 use Rattle.wire.specs.Statements.{Statement}
 use Rattle.protocol.specs.declared.fault.ReplicaFault.{ReplicaFault}
 use Rattle.protocol.specs.declared.state.State.{State}
-use Rattle.protocol.specs.Agreement.{Among, facts_of}
+use Rattle.protocol.specs.Agreement.{facts_of}
 use Rattle.protocol.specs.Facts.{Facts}
 use Rattle.protocol.specs.Receipts.{Made}
 use Rattle.protocol.specs.Replay.{RequestMachine}
 use Rattle.protocol.specs.Runs.{Node, Cluster, call, Deed, Word, HeardBytes}
-use Rattle.protocol.specs.Steps.{Act, orders, repeats, hears, carries_out, doubts, reports, closes, opens, Effect, Verdict, refused, accepted, step}
+use Rattle.protocol.specs.Steps.{Act, closes, opens, Effect, Verdict, refused, accepted, step}
 use Rattle.protocol.specs.Verdicts.{answer_of, state_after, used, machine_after, sealed_after}
 use Rattle.protocol.proofs.Grow.{Grows, Adds, InRange, inv_grows, inv_adds}
 use Rattle.protocol.proofs.History.{Past, Leaves, IsCall, accepted_new, history_grows, past_more}

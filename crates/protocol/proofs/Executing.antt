@@ -1,20 +1,19 @@
 -- Carrying out keeps what an honest replica keeps: the commits heard and the PREPARE are the certificate of what it executes and enters in its log.
-use Rattle.std.proofs.Common.{◌≡◌, ℕ, suc, ◌+◌, ◌^◌, ◌<◌, ◌≤◌, max, Bool, true, false, cond, ◌||◌, T, eqb, ltb, ◌≢◌, ◌⊎◌, List, get_or, set, Some, Option, refl, ap, ◌∙◌, inl, inr, ⊎_elim, add-one, arith, eqb→eq, ltb→lt, T_not, length-set, get_or-set_other, get_or-set_same}
+use Rattle.std.proofs.Common.{◌≡◌, ℕ, suc, ◌+◌, ◌^◌, ◌<◌, max, Bool, ◌||◌, T, eqb, ◌⊎◌, List, set, Some, Option, refl, ⊎_elim, add-one, arith, T_not, length-set}
 use Rattle.std.proofs.lemmas.Bool.Decides.{nat_tests}
 use Rattle.std.proofs.lemmas.Grind.{elements}
 use Rattle.wire.specs.declared.entry.LogEntry.{LogEntry}
 use Rattle.wire.specs.declared.request.Request.{Request}
 use Rattle.wire.specs.Counting.{names}
-use Rattle.wire.specs.Statements.{Statement, prepare, commit, reply}
+use Rattle.wire.specs.Statements.{Statement, reply}
 use Rattle.groups.specs.Groups.{group, primary}
-use Rattle.protocol.specs.declared.fault.ReplicaFault.TheVariants.{NotAllowed, OutOfTurn, TooFew}
 use Rattle.protocol.specs.declared.state.State.{State}
 use Rattle.protocol.specs.Facts.{Facts}
 use Rattle.protocol.specs.Replay.{RequestMachine}
 use Rattle.protocol.specs.Rules.{Certified, one_more, Replied}
-use Rattle.protocol.specs.States.{blank_entry, working, commits_at, next_request, with_executed}
+use Rattle.protocol.specs.States.{working, commits_at, next_request, with_executed}
 use Rattle.protocol.specs.Steps.{Effect, execute, accepted, all_heard, carry_out_step}
-use Rattle.protocol.proofs.Grow.{Adds, Silent, Keeps, silent, is_vote, is_report, is_closing, certified_grows, executed_grows, replied_grows, votes_grow, logs_grow, prepares_grow, closings_grow, holds_grow, opens_grow}
+use Rattle.protocol.proofs.Grow.{Adds, Keeps, silent, is_vote, is_report, is_closing, certified_grows, executed_grows, replied_grows, votes_grow, logs_grow, prepares_grow, closings_grow, holds_grow, opens_grow}
 use Rattle.protocol.proofs.Parts.{Executes, Replies, Logs, Reports, Inv}
 use Rattle.protocol.proofs.Tests.{as_accepted, every_at}
 

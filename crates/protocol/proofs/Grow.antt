@@ -1,11 +1,10 @@
 -- What an honest replica keeps stays when more is known, if it made no new statement of the kinds that a part is about.
-use Rattle.std.proofs.Common.{◌≡◌, ℕ, suc, Bool, true, false, cond, ◌||◌, T, eqb, ◌⊎◌, List, Some, None, Option, ⊎_elim, arith}
+use Rattle.std.proofs.Common.{◌≡◌, ℕ, Bool, true, false, ◌||◌, T, ◌⊎◌, List, Some, None, Option, arith}
 use Rattle.wire.specs.declared.config.ClusterConfig.{ClusterConfig}
 use Rattle.wire.specs.declared.entry.LogEntry.{LogEntry}
 use Rattle.wire.specs.declared.request.Request.{Request}
 use Rattle.wire.specs.Laws.{Fits}
-use Rattle.wire.specs.Statements.{Statement, prepare, commit, doubt, report, closing, reply}
-use Rattle.groups.specs.Groups.{primary}
+use Rattle.wire.specs.Statements.{Statement, prepare, commit, report, closing, reply}
 use Rattle.protocol.specs.declared.state.Phase.{Phase}
 use Rattle.protocol.specs.declared.state.State.{State}
 use Rattle.protocol.specs.Facts.{Facts}

@@ -1,5 +1,5 @@
 -- What a replica's accepted calls left behind: replies to what it carried out, closings that name what it held, and a closing before each opening.
-use Rattle.std.proofs.Common.{◌≡◌, ℕ, ◌+◌, ◌<◌, Bool, ◌⊎◌, List, [], ◌∷◌, ◌++◌, Some, Ok, sym, refl, subst, inl, inr, ⊎_elim, arith}
+use Rattle.std.proofs.Common.{◌≡◌, ℕ, ◌+◌, ◌<◌, Bool, ◌⊎◌, List, [], ◌∷◌, ◌++◌, Some, Ok, refl, subst, inl, inr, ⊎_elim, arith}
 use Rattle.wire.specs.declared.config.ClusterConfig.{ClusterConfig}
 use Rattle.wire.specs.declared.request.Request.{Request}
 use Rattle.wire.specs.Statements.{Statement, reply}
@@ -12,7 +12,7 @@ use Rattle.protocol.specs.Rules.{ClosingNames, ClosedBefore}
 use Rattle.protocol.specs.Runs.{Cluster, call, Deed}
 use Rattle.protocol.specs.Selecting.{holds}
 use Rattle.protocol.specs.States.{next_request}
-use Rattle.protocol.specs.Steps.{Act, orders, repeats, hears, carries_out, doubts, reports, closes, opens}
+use Rattle.protocol.specs.Steps.{Act, carries_out, closes, opens}
 use Rattle.protocol.proofs.Grow.{Grows, closed_before_grows}
 
 -- ---- one deed more

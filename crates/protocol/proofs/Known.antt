@@ -1,21 +1,18 @@
 -- What the register knows: a statement's message is no other's, so sealing one adds that statement alone, and bytes that read and are sealed were stated.
-use Rattle.std.proofs.Common.{◌≡◌, ℕ, zero, suc, ◌+◌, ◌*◌, ◌^◌, ◌<◌, ◌≤◌, Bool, true, false, cond, not, ◌&&◌, T, eqb, ltb, leb, ◌⊎◌, List, [], ◌∷◌, length, get_or, None, Ok, Option, Result, sym, refl, ap, ◌∙◌, subst, inl, inr, ⊎_elim, not-suc-le-zero, arith, le→leb, eqb→eq, ltb→lt, lt→ltb, leb→le}
-use lib.Dec.{eqb_refl}
+use Rattle.std.proofs.Common.{◌≡◌, ℕ, zero, suc, ◌+◌, ◌*◌, ◌<◌, ◌≤◌, Bool, T, ◌⊎◌, List, [], ◌∷◌, length, get_or, None, Ok, refl, subst, not-suc-le-zero, arith}
 use Rattle.std.proofs.lemmas.Bool.Decides.{nat_tests}
 use Rattle.std.proofs.lemmas.Slice.Eq.{bytes_eq-Decides}
 use Rattle.wire.specs.declared.config.ClusterConfig.{ClusterConfig}
 use Rattle.wire.specs.declared.entry.LogEntry.{LogEntry}
-use Rattle.wire.specs.declared.fault.ReadFault.{ReadFault}
 use Rattle.wire.specs.declared.request.Request.{Request}
 use Rattle.wire.specs.Bytes.{Bytes}
 use Rattle.wire.specs.Configs.{replicas}
-use Rattle.wire.specs.Kinds.{numbered, last_view, last_number}
+use Rattle.wire.specs.Kinds.{last_view, last_number}
 use Rattle.wire.specs.Laws.{Fits}
-use Rattle.wire.specs.Reading.{reading, may_close}
-use Rattle.wire.specs.Statements.{Statement, Said, prepare, commit, doubt, report, closing, reply, view_of}
-use Rattle.wire.specs.Writing.{field, late_entry, misfit_body}
+use Rattle.wire.specs.Reading.{reading}
+use Rattle.wire.specs.Statements.{Statement, Said, report}
+use Rattle.wire.specs.Writing.{late_entry}
 use Rattle.wire.proofs.Laws.{written_reads, read_is_written}
-use Rattle.groups.specs.Groups.{primary}
 use Rattle.protocol.specs.Certificates.{message, known}
 use Rattle.protocol.specs.Receipts.{Made}
 use Rattle.protocol.specs.Verdicts.{added}

@@ -1,5 +1,5 @@
 -- Opening keeps what an honest replica keeps: what is selected gives each vote of the opened view its reasons.
-use Rattle.std.proofs.Common.{◌≡◌, ℕ, suc, ◌<◌, Bool, not, ◌||◌, T, List, get_or, is_some, Some, None, Option, sym, refl, ◌∙◌, not-suc-le-zero, arith}
+use Rattle.std.proofs.Common.{◌≡◌, ℕ, suc, ◌<◌, Bool, not, ◌||◌, T, List, get_or, is_some, Some, None, Option, sym, refl, ◌∙◌, arith}
 use Rattle.std.specs.List.{slice_get}
 use Rattle.std.proofs.lemmas.List.{length-replicate}
 use Rattle.std.proofs.lemmas.Option.{slice_get_within, get_or_from_slice_get}
@@ -8,9 +8,8 @@ use Rattle.wire.specs.declared.request.Request.{Request}
 use Rattle.wire.specs.Kinds.{last_number}
 use Rattle.wire.specs.Statements.{Statement}
 use Rattle.groups.specs.Groups.{group}
-use Rattle.protocol.specs.declared.fault.ReplicaFault.TheVariants.{NotAllowed, TooFew, NamedReportMissing}
 use Rattle.protocol.specs.declared.state.Phase.{Phase}
-use Rattle.protocol.specs.declared.state.Phase.TheVariants.{Working, Aside, Turning, Gathering, Closed}
+use Rattle.protocol.specs.declared.state.Phase.TheVariants.{Closed}
 use Rattle.protocol.specs.declared.state.State.{State}
 use Rattle.protocol.specs.Facts.{Facts}
 use Rattle.protocol.specs.Replay.{RequestMachine}

@@ -1,5 +1,5 @@
 -- Counting replicas: two sets that together have more than n members below n share one.
-use Rattle.std.proofs.Common.{◌≡◌, ℕ, zero, suc, ◌+◌, ◌<◌, ◌≤◌, Bool, true, false, not, ◌&&◌, T, refl, subst, not-suc-le-zero, arith}
+use Rattle.std.proofs.Common.{◌≡◌, ℕ, zero, suc, ◌+◌, ◌<◌, ◌≤◌, Bool, not, ◌&&◌, T, refl, not-suc-le-zero, arith}
 use Rattle.wire.specs.Counting.{count}
 
 pub each_passes : (a b : Bool) → T (a && b) → T a × T b

@@ -1,5 +1,5 @@
 -- Reporting, and holding a report that is heard, keep what an honest replica keeps: a report that is held has a certificate for each entry.
-use Rattle.std.proofs.Common.{◌≡◌, ℕ, zero, suc, ◌+◌, ◌<◌, ◌≤◌, Bool, true, false, cond, not, T, List, [], ◌∷◌, length, get_or, take, set, Some, None, Option, sym, refl, ◌∙◌, subst, ⊎_elim, not-suc-le-zero, add-zero, arith, length-set, length-take-le, get_or-take}
+use Rattle.std.proofs.Common.{◌≡◌, ℕ, zero, suc, ◌+◌, ◌<◌, ◌≤◌, Bool, true, false, cond, T, List, [], ◌∷◌, length, get_or, take, set, Some, None, Option, sym, refl, ◌∙◌, subst, ⊎_elim, not-suc-le-zero, add-zero, arith, length-set, length-take-le, get_or-take}
 use Rattle.std.proofs.lemmas.Bool.Decides.{nat_tests}
 use Rattle.std.proofs.lemmas.Grind.{elements}
 use lib.Dec.{not_T}
@@ -9,10 +9,8 @@ use Rattle.wire.specs.declared.entry.LogEntry.{LogEntry}
 use Rattle.wire.specs.declared.request.Request.{Request}
 use Rattle.wire.specs.Configs.{replicas}
 use Rattle.wire.specs.Kinds.{last_view, last_number}
-use Rattle.wire.specs.Laws.{Fits}
 use Rattle.wire.specs.Statements.{Statement, report, reply}
 use Rattle.groups.specs.Groups.{group, member}
-use Rattle.protocol.specs.declared.fault.ReplicaFault.TheVariants.{NotAllowed, HeardBefore, NoCertificate}
 use Rattle.protocol.specs.declared.state.HeldReport.{HeldReport}
 use Rattle.protocol.specs.declared.state.Phase.{Phase}
 use Rattle.protocol.specs.declared.state.Phase.TheVariants.{Aside, Gathering}
@@ -24,7 +22,7 @@ use Rattle.protocol.specs.Replay.{RequestMachine}
 use Rattle.protocol.specs.Rules.{Certified, HasEntry}
 use Rattle.protocol.specs.Selecting.{holds}
 use Rattle.protocol.specs.States.{blank_entry, most_replicas, working, turning, active, entries, entries_in, held, noted, changed_to, as_held, with_report, reported}
-use Rattle.protocol.specs.Steps.{Effect, rest, accepted, report_step, hold, hear_report}
+use Rattle.protocol.specs.Steps.{Effect, rest, accepted, report_step, hear_report}
 use Rattle.protocol.specs.Votes.{vote}
 use Rattle.protocol.proofs.Tests.{as_accepted, every_at}
 use Rattle.protocol.proofs.Lists.{has_entry}

@@ -1,5 +1,5 @@
 -- What is made, once a replica made a statement or none.
-use Rattle.std.proofs.Common.{◌≡◌, ℕ, Bool, ◌⊎◌, List, Some, None, Option, sym, refl, ap, inl, inr, ⊎_elim, arith}
+use Rattle.std.proofs.Common.{◌≡◌, ℕ, Bool, ◌⊎◌, List, Some, None, Option, refl, inl, arith}
 use Rattle.wire.specs.declared.config.ClusterConfig.{ClusterConfig}
 use Rattle.wire.specs.Statements.{Statement}
 use Rattle.protocol.specs.Certificates.{message}
@@ -8,7 +8,6 @@ use Rattle.protocol.specs.Steps.{Verdict, refused, accepted}
 use Rattle.protocol.specs.Verdicts.{sealed_after, added}
 use Rattle.protocol.proofs.Grow.{InRange}
 use Rattle.protocol.proofs.Known.{made_kept, made_by_others, made_new, made_after}
-use Rattle.std.proofs.lemmas.Option.{none-some}
 
 -- the statement that a verdict seals
 abbrev pub statement_of : Verdict → Option Statement

@@ -1,5 +1,5 @@
 -- A new cluster keeps what its replicas have to keep: nothing is known, prepared, logged or held.
-use Rattle.std.proofs.Common.{◌≡◌, ℕ, ◌<◌, Bool, true, false, cond, T, [], map, length, Some, None, Option, sym, refl, ap, ◌∙◌, subst, not-suc-le-zero, arith}
+use Rattle.std.proofs.Common.{◌≡◌, ℕ, ◌<◌, Bool, T, [], map, length, Some, sym, refl, ap, ◌∙◌, subst, arith}
 use lib.ListN.{length-replicate}
 use Rattle.std.specs.List.{slice_get, range_with_len}
 use Rattle.std.proofs.lemmas.List.FromFn.{length-map-range_with_len, get_or-map-range_with_len}
@@ -7,20 +7,16 @@ use Rattle.wire.specs.declared.config.ClusterConfig.{ClusterConfig}
 use Rattle.wire.specs.declared.entry.LogEntry.{LogEntry}
 use Rattle.wire.specs.declared.request.Request.{Request}
 use Rattle.wire.specs.Configs.{replicas}
-use Rattle.wire.specs.Kinds.{last_number}
 use Rattle.wire.specs.Statements.{Statement}
-use Rattle.groups.specs.Groups.{member}
-use Rattle.protocol.specs.declared.state.HeldReport.{HeldReport}
-use Rattle.protocol.specs.declared.state.Phase.TheVariants.{Working, Aside}
 use Rattle.protocol.specs.Agreement.{facts_of}
 use Rattle.protocol.specs.Certificates.{message}
 use Rattle.protocol.specs.Facts.{Facts}
 use Rattle.protocol.specs.Replay.{RequestMachine}
 use Rattle.protocol.specs.Rules.{nothing}
 use Rattle.protocol.specs.Runs.{Node, Cluster, new_node, New}
-use Rattle.protocol.specs.States.{blank, blank_entry, most_replicas, new_state}
+use Rattle.protocol.specs.States.{new_state}
 use Rattle.std.proofs.lemmas.Option.{slice_get_within, get_or_from_slice_get}
-use Rattle.protocol.proofs.Parts.{serving, Inv}
+use Rattle.protocol.proofs.Parts.{Inv}
 use Rattle.protocol.proofs.Clusters.{Kept}
 
 module _ (config : ClusterConfig) (machine : RequestMachine) (byzantine : ℕ → Bool) where

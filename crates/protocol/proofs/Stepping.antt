@@ -1,28 +1,19 @@
 -- Every accepted call of an honest replica keeps what it keeps, and leaves behind what it has to; no call alters a replica's number or config.
-use Rattle.std.proofs.Common.{◌≡◌, ℕ, ◌+◌, ◌-◌, ◌^◌, ◌<◌, Bool, true, false, cond, not, ◌&&◌, ◌||◌, T, eqb, ltb, leb, List, is_some, Some, None, Ok, Err, Option, Result, refl, arith, eqb→eq}
-use Rattle.std.proofs.lemmas.Bool.Decides.{nat_tests}
-use Rattle.wire.specs.declared.entry.LogEntry.{LogEntry}
+use Rattle.std.proofs.Common.{◌≡◌, ℕ, ◌^◌, ◌<◌, Bool, T, List, Some, Ok, Err, Option, Result, refl, arith, eqb→eq}
 use Rattle.wire.specs.declared.fault.ReadFault.{ReadFault}
 use Rattle.wire.specs.declared.request.Request.{Request}
 use Rattle.wire.specs.Bytes.{Bytes}
-use Rattle.wire.specs.Configs.{faults}
-use Rattle.wire.specs.Counting.{count, names}
-use Rattle.wire.specs.Kinds.{last_view, last_number}
 use Rattle.wire.specs.Reading.{reading}
 use Rattle.wire.specs.Statements.{Statement, Said, prepare, commit, doubt, report, closing, reply, view_of}
 use Rattle.seals.specs.declared.fault.RegisterFault.TheVariants.{Unknown}
-use Rattle.protocol.specs.declared.fault.ReplicaFault.{ReplicaFault}
-use Rattle.protocol.specs.declared.fault.ReplicaFault.TheVariants.{Read, Register, WrongView, NotAllowed, NotEntitled, OutOfTurn, TooFew}
-use Rattle.protocol.specs.declared.state.Phase.TheVariants.{Closed}
+use Rattle.protocol.specs.declared.fault.ReplicaFault.TheVariants.{Register, WrongView, NotAllowed, NotEntitled}
 use Rattle.protocol.specs.declared.state.State.{State}
-use Rattle.protocol.specs.Certificates.{size, uncertified}
 use Rattle.protocol.specs.Facts.{Facts}
 use Rattle.protocol.specs.Receipts.{Made}
 use Rattle.protocol.specs.Replay.{RequestMachine}
 use Rattle.protocol.specs.Runs.{HeardBytes}
-use Rattle.protocol.specs.Selecting.{peers, holds, held_mask, holds_all, named}
-use Rattle.protocol.specs.States.{working, turning, gathering, closed, active, leads, prepared_at, selected_at, commits_at, next_request, entries, noted, with_prepared, with_executed, turned, with_closing, reported}
-use Rattle.protocol.specs.Steps.{Effect, rest, execute, Verdict, refused, accepted, need, same, allows, entitles, all_heard, all_noted, seals, hold, hear_kind, hear_read, carry_out_step, close_step, open_step, Act, orders, repeats, hears, carries_out, doubts, reports, closes, opens, step}
+use Rattle.protocol.specs.Selecting.{peers, holds, held_mask}
+use Rattle.protocol.specs.Steps.{Effect, Verdict, accepted, need, same, allows, entitles, hear_kind, hear_read, close_step, open_step, Act, orders, repeats, hears, carries_out, doubts, reports, closes, opens, step}
 use Rattle.protocol.specs.Verdicts.{state_after}
 use Rattle.protocol.proofs.Grow.{Adds, Keeps, closed_before_grows}
 use Rattle.protocol.proofs.History.{Leaves}
@@ -34,7 +25,7 @@ use Rattle.protocol.proofs.Executing.{carry_out_keeps}
 use Rattle.protocol.proofs.Turning.{doubt_keeps, hear_doubt_keeps}
 use Rattle.protocol.proofs.Reporting.{report_keeps, hear_report_keeps}
 use Rattle.protocol.proofs.Closing.{close_keeps, hear_closing_keeps}
-use Rattle.protocol.proofs.Opening.{is_closed, open_keeps}
+use Rattle.protocol.proofs.Opening.{open_keeps}
 
 -- ---- number and config
 

@@ -1,19 +1,15 @@
 -- What passed tests say: the checks of an accepted call, tests of all or some replicas, and equal requests.
-use Rattle.std.proofs.Common.{◌≡◌, ℕ, zero, suc, ◌<◌, ◌≤◌, Bool, true, false, not, ◌&&◌, ◌||◌, T, eqb, leb, ◌⊎◌, List, [], ◌∷◌, Some, Option, refl, subst, inl, inr, ⊎_elim, not-suc-le-zero, arith, eqb→eq}
-use Rattle.std.proofs.lemmas.Bool.{cases_lt}
+use Rattle.std.proofs.Common.{◌≡◌, ℕ, zero, suc, ◌<◌, Bool, T, ◌⊎◌, List, [], ◌∷◌, Option, subst, not-suc-le-zero, arith}
 use Rattle.std.proofs.lemmas.Bool.Decides.{nat_tests}
 use Rattle.wire.specs.declared.request.Request.{Request}
 use Rattle.wire.specs.Statements.{Statement}
 use Rattle.wire.proofs.Building.{request_is}
 use Rattle.groups.specs.Counting.{all_below}
 use Rattle.groups.specs.Groups.{among}
-use Rattle.protocol.specs.declared.fault.ReplicaFault.{ReplicaFault}
-use Rattle.protocol.specs.declared.fault.ReplicaFault.TheVariants.{Register, ShortBuffer}
-use Rattle.seals.specs.declared.fault.RegisterFault.TheVariants.{Full}
 use Rattle.protocol.specs.declared.state.State.{State}
-use Rattle.protocol.specs.Certificates.{size, every}
+use Rattle.protocol.specs.Certificates.{every}
 use Rattle.protocol.specs.Selecting.{any_below}
-use Rattle.protocol.specs.Steps.{Effect, Verdict, refused, accepted, need, seals, same}
+use Rattle.protocol.specs.Steps.{Effect, Verdict, refused, accepted, same}
 
 abbrev Accepting : (State → Effect → Option Statement → Type 0) → Verdict → Type 0
 Accepting P (refused fault) = Unit {0}

@@ -1,5 +1,5 @@
 -- Voting for a number (ordering, repeating, hearing a PREPARE) and hearing a COMMIT keep what an honest replica keeps.
-use Rattle.std.proofs.Common.{◌≡◌, ℕ, suc, ◌+◌, ◌-◌, ◌^◌, ◌<◌, ◌≤◌, Bool, not, ◌&&◌, ◌||◌, T, eqb, ltb, leb, ◌⊎◌, List, get_or, set, Some, None, Option, sym, refl, ap, ◌∙◌, subst, inl, inr, ⊎_elim, add-one, arith, eqb→eq, ltb→lt, leb→le, length-set, get_or-set_other, get_or-set_same}
+use Rattle.std.proofs.Common.{◌≡◌, ℕ, suc, ◌+◌, ◌-◌, ◌^◌, ◌<◌, ◌≤◌, Bool, T, ◌⊎◌, List, set, Some, None, Option, refl, inl, inr, add-one, arith, eqb→eq, length-set}
 use native.Mathlib.Nat.{zero-div}
 use lib.Bits.{bit_or}
 use Rattle.std.proofs.lemmas.Bool.Decides.{nat_tests}
@@ -9,22 +9,21 @@ use Rattle.wire.specs.Configs.{replicas}
 use Rattle.wire.specs.Counting.{names}
 use Rattle.wire.specs.Kinds.{last_number}
 use Rattle.wire.specs.Statements.{Statement, prepare, commit}
-use Rattle.groups.specs.Groups.{member, primary, follower}
-use Rattle.protocol.specs.declared.fault.ReplicaFault.TheVariants.{NotAllowed, OutOfTurn, OtherRequest, HeardBefore, NoneLeft}
+use Rattle.groups.specs.Groups.{primary}
 use Rattle.protocol.specs.declared.state.State.{State}
 use Rattle.protocol.specs.Certificates.{size}
 use Rattle.protocol.specs.Facts.{Facts}
 use Rattle.protocol.specs.Receipts.{Made}
 use Rattle.protocol.specs.Replay.{RequestMachine}
 use Rattle.protocol.specs.Rules.{Chosen}
-use Rattle.protocol.specs.States.{blank, working, leads, prepared_at, selected_at, commits_at, with_prepared, with_commits}
-use Rattle.protocol.specs.Steps.{Effect, rest, accepted, same, allows, entitles, order_step, repeat_step, hear_prepare, hear_commit}
+use Rattle.protocol.specs.States.{working, leads, prepared_at, selected_at, commits_at, with_prepared, with_commits}
+use Rattle.protocol.specs.Steps.{Effect, rest, accepted, allows, entitles, order_step, repeat_step, hear_prepare, hear_commit}
 use Rattle.protocol.specs.Votes.{vote}
-use Rattle.protocol.proofs.Grow.{Adds, Silent, Keeps, silent, is_report, is_closing, is_reply, chosen_grows, executes_grow, replies_grow, logs_grow, reports_grow, closings_grow, holds_grow, opens_grow, inv_adds}
+use Rattle.protocol.proofs.Grow.{Adds, Keeps, silent, is_report, is_closing, is_reply, chosen_grows, executes_grow, replies_grow, logs_grow, reports_grow, closings_grow, holds_grow, opens_grow, inv_adds}
 use Rattle.protocol.proofs.Known.{fits_vote}
 use Rattle.protocol.proofs.Masks.{names_more}
 use Rattle.protocol.proofs.Parts.{Shape, Votes, Prepares, Inv}
-use Rattle.protocol.proofs.Tests.{as_accepted, last_or_below, same_equal}
+use Rattle.protocol.proofs.Tests.{as_accepted, same_equal}
 
 -- the empty mask names none, and that of one bit one
 names_nothing : (g : ℕ) → T (names 0 g) → ⊥
