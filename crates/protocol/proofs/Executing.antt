@@ -72,15 +72,9 @@ module _ {machine : RequestMachine} {facts : Facts machine} (s : State) (state :
             → (v ≡ s.view) × (n ≡ suc s.executed) × (r ≡ next_request s) × (outcome ≡ (machine.step state (next_request s)).1)
             → Replied s.config machine facts' s.number v n r outcome
         replied v n r outcome new =
+            let executed = executed_grows s.config adds.grows (inv.executes.so_far works) in
             rw (new.0, new.1, new.2, new.3)
-            (record {
-              before = s.executed;
-              numbered = refl;
-              state = state;
-              executed = executed_grows s.config adds.grows (inv.executes.so_far works);
-              certified = certified;
-              gives = refl;
-            })
+            (record { before = s.executed; numbered = refl; state = state; executed = executed; certified = certified; gives = refl })
 
     reports : Reports s.config machine facts' s.number s.view
     reports =

@@ -52,11 +52,7 @@ module _ (machine : RequestMachine) (facts : Facts machine) (s : State) (state :
       → Heeded s.config machine facts s.view (suc k) r x
   heeded k r select x l t =
       let there = the_some (held s x) (grind (arith, all_at (peers s) (λ x. not (named s x) || holds s x) holding x l)) in
-      record {
-        entries = there.0;
-        reported = inv.holds.reported x there.0 there.1;
-        highest = λ e at. backed x k there.0 e r select l t there.1 at;
-      }
+      record { entries = there.0; reported = inv.holds.reported x there.0 there.1; highest = λ e. backed x k there.0 e r select l t there.1 }
 
   chooses : (k : ℕ) (r : Request) → (k < selects s → r ≡ get_or (choices s) k blank) → Chosen s.config machine facts s.number s.view (suc k) r
   chooses k r select =

@@ -39,8 +39,7 @@ certified_each config sealed number [] e k d l = absurd (not-suc-le-zero l)
 certified_each config sealed number (x ∷ es) e zero d l = grind (arith, add-zero number)
 certified_each config sealed number (x ∷ es) e (suc k) d l =
     let same : suc number + k ≡ number + suc k = omega arith in
-    let none : uncertified config sealed (suc number) es ≡ None = grind arith in
-    rw same at (certified_each config sealed (suc number) es none k d (omega arith))
+    rw same at (certified_each config sealed (suc number) es (grind arith) k d (omega arith))
 
 -- the votes of the certificates were made
 certificates : (config : ClusterConfig) (sealed : ℕ → List ℕ → Bool) (view : ℕ) (es : List LogEntry) → view ≤ last_view
@@ -87,7 +86,7 @@ module _ (machine : RequestMachine) (facts facts' : Facts machine) (s : State) (
 
   early_entries : (k : ℕ) → k < length (entries s) → (get_or (entries s) k blank_entry).view < s.view
   early_entries k l =
-      rw (get_or-take s.logged s.log k blank_entry (omega (arith, long_entries))) (inv.logs.earlier (not_T (working s.phase) idle) k (omega (arith, long_entries)))
+      grind (arith, get_or-take s.logged s.log k blank_entry, long_entries, inv.logs.earlier (not_T (working s.phase) idle) k)
 
   module _ (adds : Adds facts facts' s.number (Some (report s.view (entries s)))) where
     -- the report has what was replied to before
@@ -139,8 +138,8 @@ module _ (machine : RequestMachine) (facts facts' : Facts machine) (s : State) (
 
         own_certified : Sound s.config facts' s.view (entries s)
         own_certified k l =
-            let below : k < s.logged = omega (arith, long_entries) in
-            (early_entries k l, rw (get_or-take s.logged s.log k blank_entry below) (certified_grows s.config adds.grows _ (suc k) _ (inv.logs.certified k below)))
+            let logs = logs_grow s.config adds.grows inv.logs in
+            (early_entries k l, rw (get_or-take s.logged s.log k blank_entry (omega (arith, long_entries))) (logs.certified k (omega (arith, long_entries))))
 
         go : (member : Bool) → active s ≡ member
             → Inv machine facts' (cond member (with_report s Gathering s.number own) (changed_to s s.view Aside s.reports s.closings)) state

@@ -34,17 +34,10 @@ module _ (config : ClusterConfig) (machine : RequestMachine) (byzantine : ℕ �
   event_kept ds c kept (byzantine_seal h bytes) answer d happens covers =
       still_kept config machine byzantine ds c kept _ d happens.nodes
       (λ g act s a is. let event = ap (λ (x : Deed). x.event) is.1 in cc)
-      (λ g st made. rw happens.sealed (more (c.sealed h bytes || c.fits (length bytes)) g st made))
+      (λ g st made. rw happens.sealed (grind (arith, made_kept config c.sealed h bytes g st made)))
       (λ g honest st made.
-      less (c.sealed h bytes || c.fits (length bytes)) g st (λ is. grind (arith, covers h bytes answer (among_new _ ds))) (rw happens.sealed at made))
-    where
-      more : (taken : Bool) (g : ℕ) (st : Statement) → Made config c.sealed g st → Made config (cond taken (added c.sealed h bytes) c.sealed) g st
-      more true g st made = made_kept config c.sealed h bytes g st made
-      more false g st made = made
-
-      less : (taken : Bool) (g : ℕ) (st : Statement) → (g ≡ h → ⊥) → Made config (cond taken (added c.sealed h bytes) c.sealed) g st → Made config c.sealed g st
-      less true g st apart made = made_by_others config c.sealed h bytes g st apart made
-      less false g st apart made = made
+      let was = rw happens.sealed at made in
+      grind (arith, covers h bytes answer (among_new _ ds), made_by_others config c.sealed h bytes g st))
 
   pub run_kept : (first : Cluster machine.State) → New machine config first → {ds : List Deed} {c : Cluster machine.State} → Run machine first ds c
       → Covers byzantine ds → Kept config machine byzantine ds c

@@ -43,12 +43,7 @@ module _ (config : ClusterConfig) (machine : RequestMachine) (byzantine : ℕ �
         placed = λ h node e. rw (is_new h node e).1 (refl, refl);
         keeps = λ h node e honest.
             rw (is_new h node e).1 (new_inv (facts_of config machine byzantine [] first) h (is_new h node e).0 (λ x st made. subst T (new.sealed x (message x st)) made.1));
-        past = λ h honest.
-            record {
-              carries = λ v n r outcome o. absurd o.accepted.done;
-              closes = λ v holding o. absurd o.accepted.done;
-              opens = λ v above o. absurd o.accepted.done;
-            };
+        past = λ h honest. search arith;
       }
     where
       is_new : (h : ℕ) (node : Node machine.State) → slice_get first.nodes h ≡ Some node → (h < replicas config) × (node ≡ new_node machine config h)
