@@ -13,7 +13,7 @@ use Rattle.protocol.specs.Numbers.{at_number}
 use Rattle.protocol.specs.Replay.{RequestMachine, after, outcome_of}
 use Rattle.protocol.specs.Rules.{GroupLaws, Certified, Backed, Executed, nothing, one_more, Replied, Rules, RulesAgree}
 use Rattle.protocol.proofs.Choice.{best}
-use Rattle.protocol.proofs.Quorum.{share, count_not, count_more, both_pass, each_passes}
+use Rattle.protocol.proofs.Quorum.{each_passes, share, count_not, count_more}
 use Rattle.protocol.proofs.Lists.{at_number_map, replay_next}
 
 module _ (config : ClusterConfig) (machine : RequestMachine) (facts : Facts machine) where
@@ -189,7 +189,7 @@ module _ (config : ClusterConfig) (machine : RequestMachine) (facts : Facts mach
             arith,
             c.enough,
             count_more (replicas config) c.holding (λ x. not (facts.byzantine x) && c.holding x)
-                (λ x l t. both_pass (not (facts.byzantine x)) (c.holding x) (honest x l) t),
+                (λ x l t. grind (arith, honest x l)),
           );
         }
 

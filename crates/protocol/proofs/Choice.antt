@@ -1,5 +1,5 @@
 -- Logs put together by the highest view for each number: each entry is one of theirs, and none of theirs is of a higher view.
-use Rattle.std.proofs.Common.{◌≡◌, ℕ, zero, suc, ◌<◌, ◌≤◌, Bool, true, false, cond, T, ltb, ◌⊎◌, List, [], ◌∷◌, Some, refl, inl, inr, ⊎_elim, le_refl, not-suc-le-zero, arith}
+use Rattle.std.proofs.Common.{◌≡◌, ℕ, zero, suc, ◌<◌, Bool, true, false, cond, T, ltb, ◌⊎◌, List, [], ◌∷◌, Some, refl, inl, inr, ⊎_elim, not-suc-le-zero, arith}
 use Rattle.std.proofs.lemmas.Bool.Decides.{nat_tests}
 use Rattle.wire.specs.declared.entry.LogEntry.{LogEntry}
 use Rattle.protocol.specs.Numbers.{at_number}

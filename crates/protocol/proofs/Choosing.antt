@@ -1,6 +1,6 @@
 -- What a replica selects at opening: for each number an entry of a report that counts, and no such report has an entry of a higher view;
 -- past the numbers selected no report that counts has an entry.
-use Rattle.std.proofs.Common.{◌≡◌, ℕ, zero, suc, ◌<◌, ◌≤◌, Bool, true, false, cond, T, ltb, ◌⊎◌, List, length, get_or, Some, None, Option, sym, refl, ap, ◌∙◌, inl, inr, ⊎_elim, le_refl, not-suc-le-zero, arith}
+use Rattle.std.proofs.Common.{◌≡◌, ℕ, zero, suc, ◌<◌, ◌≤◌, T, ltb, ◌⊎◌, List, length, get_or, Some, None, Option, sym, refl, ap, ◌∙◌, inl, inr, ⊎_elim, le_refl, not-suc-le-zero, arith}
 use Rattle.std.specs.List.{slice_get}
 use Rattle.std.proofs.lemmas.List.FromFn.{get_or-map-range_with_len}
 use Rattle.std.proofs.lemmas.Option.{none-some, slice_get_within, slice_get_past, gets}
@@ -11,7 +11,7 @@ use Rattle.wire.specs.declared.request.Request.{Request}
 use Rattle.wire.specs.Kinds.{last_number}
 use Rattle.protocol.specs.declared.state.State.{State}
 use Rattle.protocol.specs.Selecting.{peers, named, counts, length_of, entry_at, longest, later, latest, request_of, selects, choice, choices}
-use Rattle.protocol.specs.States.{blank, blank_entry, held}
+use Rattle.protocol.specs.States.{blank, held}
 use Rattle.protocol.proofs.Tests.{last_or_below}
 
 -- the largest value bounds each

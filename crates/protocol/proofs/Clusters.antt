@@ -1,5 +1,5 @@
 -- What holds of a cluster and the history that led to it, and what one event more owes.
-use Rattle.std.proofs.Common.{◌≡◌, ℕ, Bool, not, T, List, [], ◌∷◌, ◌++◌, length, set, Some, Ok, Result, sym, refl, ap, ◌∙◌, subst, ⊎_elim, length-set}
+use Rattle.std.proofs.Common.{◌≡◌, ℕ, Bool, not, T, List, [], ◌∷◌, ◌++◌, length, set, Some, Ok, Err, Option, Result, sym, refl, ap, ◌∙◌, subst, ⊎_elim, length-set}
 use Rattle.std.specs.List.{slice_get}
 use Rattle.std.proofs.lemmas.Bool.{cases_eq}
 use Rattle.std.proofs.lemmas.Option.{same_Some}
@@ -8,18 +8,18 @@ use Rattle.wire.specs.Configs.{replicas}
 use Rattle.wire.specs.Statements.{Statement}
 use Rattle.protocol.specs.declared.fault.ReplicaFault.{ReplicaFault}
 use Rattle.protocol.specs.declared.state.State.{State}
-use Rattle.protocol.specs.Agreement.{Among, facts_of}
+use Rattle.protocol.specs.Agreement.{facts_of}
 use Rattle.protocol.specs.Facts.{Facts}
 use Rattle.protocol.specs.Receipts.{Made}
 use Rattle.protocol.specs.Replay.{RequestMachine}
-use Rattle.protocol.specs.Runs.{Node, Cluster, call, Deed}
-use Rattle.protocol.specs.Steps.{Act, orders, repeats, hears, carries_out, doubts, reports, closes, opens, Verdict, refused, accepted}
-use Rattle.protocol.specs.Verdicts.{state_after, machine_after, sealed_after}
-use Rattle.protocol.proofs.Grow.{Grows, Adds, InRange, inv_grows}
-use Rattle.protocol.proofs.History.{Past, Leaves, IsCall, among_new, history_grows, past_more}
+use Rattle.protocol.specs.Runs.{Node, Cluster, call, Deed, Word, HeardBytes}
+use Rattle.protocol.specs.Steps.{Act, closes, opens, Effect, Verdict, refused, accepted, step}
+use Rattle.protocol.specs.Verdicts.{answer_of, state_after, used, machine_after, sealed_after}
+use Rattle.protocol.proofs.Grow.{Grows, Adds, InRange, inv_grows, inv_adds}
+use Rattle.protocol.proofs.History.{Past, Leaves, IsCall, accepted_new, history_grows, past_more}
 use Rattle.protocol.proofs.Lists.{nth_set, nth_set_other}
 use Rattle.protocol.proofs.Parts.{Inv}
-use Rattle.protocol.proofs.Stepping.{SamePlace, Shows}
+use Rattle.protocol.proofs.Stepping.{SamePlace, Shows, step_same, step_leaves, step_keeps}
 use Rattle.protocol.proofs.Saying.{statement_of, sealed_said, sealed_is, said_kept, said_by_others, said_new, said_only}
 
 -- what holds of a cluster and the history that led to it
@@ -59,31 +59,15 @@ module _ (config : ClusterConfig) (machine : RequestMachine) (byzantine : ℕ �
 pub shows : (config : ClusterConfig) (machine : RequestMachine) (byzantine : ℕ → Bool) (ds : List Deed) (deed : Deed) (d : Cluster machine.State)
     (s : State) (act : Act) (answer : ℕ) → IsCall deed s.number act s answer → Shows (facts_of config machine byzantine (ds ++ deed ∷ []) d) s act
 shows config machine byzantine ds deed d s closes answer is =
-    record {
-      state = s;
-      answer = answer;
-      accepted = record { room = is.0; done = subst (λ (x : Deed). Among x (ds ++ deed ∷ [])) is.1 (among_new deed ds) };
-      in_view = refl;
-      held = λ x t. t;
-    }
-shows config machine byzantine ds deed d s opens answer is =
-    record {
-      state = s;
-      answer = answer;
-      accepted = record { room = is.0; done = subst (λ (x : Deed). Among x (ds ++ deed ∷ [])) is.1 (among_new deed ds) };
-      in_view = refl;
-    }
+    record { state = s; answer = answer; accepted = accepted_new deed ds is; in_view = refl; held = λ x t. t }
+shows config machine byzantine ds deed d s opens answer is = record { state = s; answer = answer; accepted = accepted_new deed ds is; in_view = refl }
 shows config machine byzantine ds deed d s act answer is = tt
-
--- a call leaves number and config as they were
-same_after : (s : State) (verdict : Verdict) → SamePlace s verdict → ((state_after s verdict).number ≡ s.number) × ((state_after s verdict).config ≡ s.config)
-same_after s (refused fault) same = (refl, refl)
-same_after s (accepted s' effect statement answer) same = same
 
 -- a call of the replica at a place
 module _ (config : ClusterConfig) (machine : RequestMachine) (byzantine : ℕ → Bool) (ds : List Deed) (c : Cluster machine.State)
-    (kept : Kept config machine byzantine ds c) (at : ℕ) (act : Act) (node : Node machine.State) (found : slice_get c.nodes at ≡ Some node)
-    (answer : Result ℕ ReplicaFault) (d : Cluster machine.State) (given : ℕ) (verdict : Verdict)
+    (kept : Kept config machine byzantine ds c) (at room given : ℕ) (act : Act) (node : Node machine.State) (found : slice_get c.nodes at ≡ Some node)
+    (answer : Result ℕ ReplicaFault) (d : Cluster machine.State) (word : Word answer) (heard : HeardBytes act)
+    (verdict : Verdict) (judges : step c.sealed c.fits room (λ r. (machine.step node.machine r).1) node.state act ≡ verdict) (answers : answer ≡ answer_of verdict)
     (nodes : d.nodes ≡ set c.nodes at (record { state = state_after node.state verdict; machine = machine_after machine node.machine verdict }))
     (sealing : d.sealed ≡ sealed_after c.sealed node.state.number verdict) where
   abbrev deed : Deed
@@ -98,59 +82,81 @@ module _ (config : ClusterConfig) (machine : RequestMachine) (byzantine : ℕ �
   abbrev number : ℕ
   number = node.state.number
 
-  -- what is known after the call
-  into : (g : ℕ) (st : Statement) → Made config (sealed_said c.sealed number (statement_of verdict)) g st → now.Known g st
-  into g st = subst (λ (f : ℕ → List ℕ → Bool). Made config f g st) (sym (sealing ∙ sealed_is c.sealed number verdict))
-
-  out_of : (g : ℕ) (st : Statement) → now.Known g st → Made config (sealed_said c.sealed number (statement_of verdict)) g st
-  out_of g st = subst (λ (f : ℕ → List ℕ → Bool). Made config f g st) (sealing ∙ sealed_is c.sealed number verdict)
-
-  grows : Grows was now
-  grows = history_grows config machine byzantine ds c deed d (λ g st made. into g st (said_kept config c.sealed number (statement_of verdict) g st made))
-
-  -- of the other replicas no more than before
-  quiet : (g : ℕ) → (g ≡ number → ⊥) → (st : Statement) → now.Known g st → was.Known g st
-  quiet g apart st known = said_by_others config c.sealed number (statement_of verdict) g st apart (out_of g st known)
-
-  -- of the caller also the statement that it made
-  pub adding : InRange config number (statement_of verdict) → Adds was now number (statement_of verdict)
-  adding range =
-      record {
-        grows = grows;
-        only = λ st known. said_only config c.sealed number (statement_of verdict) range st (out_of number st known);
-        new = λ st is. into number st (said_new config c.sealed number (statement_of verdict) range st is);
-      }
+  abbrev after : Node machine.State
+  after = record { state = state_after node.state verdict; machine = machine_after machine node.machine verdict }
 
   named : (number ≡ at) × (node.state.config ≡ config)
   named = kept.placed at node found
 
+  -- what is known after the call
+  known : d.sealed ≡ sealed_said c.sealed number (statement_of verdict)
+  known = sealing ∙ sealed_is c.sealed number verdict
+
+  grows : Grows was now
+  grows = history_grows config machine byzantine ds c deed d (λ g st made. rw known (said_kept config c.sealed number (statement_of verdict) g st made))
+
+  -- of the other replicas no more than before
+  quiet : (g : ℕ) → (g ≡ number → ⊥) → (st : Statement) → now.Known g st → was.Known g st
+  quiet g apart st made = said_by_others config c.sealed number (statement_of verdict) g st apart (rw known at made)
+
+  -- of the caller also the statement that it made
+  adding : InRange config number (statement_of verdict) → Adds was now number (statement_of verdict)
+  adding range =
+      record {
+        grows = grows;
+        only = λ st made. said_only config c.sealed number (statement_of verdict) range st (rw known at made);
+        new = λ st is. rw known (said_new config c.sealed number (statement_of verdict) range st is);
+      }
+
+  -- what an accepted call of an honest caller keeps and leaves behind
+  accepted_keeps : T (not (byzantine at)) → (s' : State) (effect : Effect) (statement : Option Statement) (a : ℕ) → verdict ≡ accepted s' effect statement a
+      → Inv machine now s' (used machine node.machine effect) × Leaves config machine now at node.state act a
+  accepted_keeps honest s' effect statement a is =
+      let inv = kept.keeps at node found honest in
+      let ok : answer ≡ Ok a = answers ∙ ap answer_of is in
+      let is_deed : IsCall deed number act node.state a = (given, rw (named.0, ok)) in
+      let knows = λ (x : ℕ) (st : Statement). subst (λ (k : ClusterConfig). Made k c.sealed x st) named.1 in
+      let kept_now =
+      step_keeps machine was now c.sealed c.fits room node.state node.machine inv knows s' effect statement a (subst Word ok word) act heard
+      (shows config machine byzantine ds deed d node.state act a is_deed) (judges ∙ is) in
+      let range = subst (λ (k : ClusterConfig). InRange k number statement) named.1 kept_now.in_range in
+      let adds : Adds was now number statement = rw is at (adding (rw is range)) in (
+        kept_now.keeps adds,
+        subst (λ (h : ℕ). Leaves config machine now h node.state act a) named.0
+            (subst (λ (k : ClusterConfig). Leaves k machine now number node.state act a) named.1
+            (step_leaves machine was now c.sealed c.fits room node.state node.machine inv s' effect statement a adds (λ r. (machine.step node.machine r).1) act (judges ∙ is))),
+      )
+
+  caller_keeps : T (not (byzantine at)) → (v : Verdict) → verdict ≡ v
+      → Inv machine now (state_after node.state v) (machine_after machine node.machine v)
+      × ((a : ℕ) → answer ≡ Ok a → Leaves config machine now at node.state act a)
+  caller_keeps honest (refused fault) is =
+      let no : answer ≡ Err fault = answers ∙ ap answer_of is in
+      (inv_adds (rw is at (adding (rw is tt))) (λ t. t) (kept.keeps at node found honest), λ a ok. cc)
+  caller_keeps honest (accepted s' effect statement b) is =
+      let ok : answer ≡ Ok b = answers ∙ ap answer_of is in
+      let keeps = accepted_keeps honest s' effect statement b is in
+      (keeps.0, λ a given. let same : b ≡ a = cc in subst (Leaves config machine now at node.state act) same keeps.1)
+
   -- the replicas after the call
-  at_place : slice_get d.nodes at ≡ Some (record { state = state_after node.state verdict; machine = machine_after machine node.machine verdict })
-  at_place = ap (λ ns. slice_get ns at) nodes ∙ nth_set c.nodes at _ node found
+  is_new : (h : ℕ) (node' : Node machine.State) → slice_get d.nodes h ≡ Some node' → h ≡ at → node' ≡ after
+  is_new h node' e is = same_Some _ _ (sym e ∙ rw (nodes, is, nth_set c.nodes at after node found))
 
   elsewhere : (h : ℕ) → (h ≡ at → ⊥) → slice_get c.nodes h ≡ slice_get d.nodes h
-  elsewhere h apart = sym (ap (λ ns. slice_get ns h) nodes ∙ nth_set_other c.nodes at h _ apart)
+  elsewhere h apart = rw (nodes, nth_set_other c.nodes at h after apart)
 
-  -- the call keeps all, if its caller keeps what it has to and leaves behind what it has to
-  pub moved_kept : SamePlace node.state verdict
-      → (T (not (byzantine at)) → Inv machine now (state_after node.state verdict) (machine_after machine node.machine verdict))
-      → (T (not (byzantine at)) → (a : ℕ) → answer ≡ Ok a → Leaves config machine now at node.state act a)
-      → Kept config machine byzantine (ds ++ deed ∷ []) d
-  moved_kept same mine leaves =
+  pub call_kept : Kept config machine byzantine (ds ++ deed ∷ []) d
+  call_kept =
       record {
-        long = ap length nodes ∙ length-set c.nodes at _ ∙ kept.long;
+        long = ap length nodes ∙ length-set c.nodes at after ∙ kept.long;
         placed = λ h node' e.
             ⊎_elim
             (λ (is : h ≡ at).
-            let new = is_new h node' e is in
-            let stays = same_after node.state verdict same in
-            (ap (λ (n : Node machine.State). n.state.number) new ∙ stays.0 ∙ named.0 ∙ sym is, ap (λ (n : Node machine.State). n.state.config) new ∙ stays.1 ∙ named.1))
-            (λ (apart : h ≡ at → ⊥). kept.placed h node' (elsewhere h apart ∙ e)) (cases_eq h at);
+            let stays = subst (SamePlace node.state) judges (step_same node.state c.sealed c.fits room (λ r. (machine.step node.machine r).1) act) in
+            rw (is_new h node' e is, is) (stays.0 ∙ named.0, stays.1 ∙ named.1))
+            (λ apart. kept.placed h node' (elsewhere h apart ∙ e)) (cases_eq h at);
         keeps = λ h node' e honest.
-            ⊎_elim
-            (λ (is : h ≡ at).
-            subst (λ (n : Node machine.State). Inv machine now n.state n.machine) (sym (is_new h node' e is))
-            (mine (subst (λ (g : ℕ). T (not (byzantine g))) is honest)))
+            ⊎_elim (λ (is : h ≡ at). rw (is_new h node' e is) (caller_keeps (rw is at honest) verdict refl).0)
             (λ (apart : h ≡ at → ⊥).
             let old = elsewhere h apart ∙ e in
             let silent = quiet node'.state.number (λ equal. apart (sym (kept.placed h node' old).0 ∙ equal ∙ named.0)) in
@@ -164,10 +170,5 @@ module _ (config : ClusterConfig) (machine : RequestMachine) (byzantine : ℕ �
             let place : at ≡ h = cc in
             let called : act ≡ act' = cc in
             let stood : node.state ≡ s = cc in
-            let left = leaves (subst (λ (g : ℕ). T (not (byzantine g))) (sym place) honest) a (ap (λ (x : Deed). x.gave) is.1) in
-            rw (← place, ← called, ← stood) left);
+            rw (← place, ← called, ← stood) ((caller_keeps (rw (← place) at honest) verdict refl).1 a (ap (λ (x : Deed). x.gave) is.1)));
       }
-    where
-      is_new : (h : ℕ) (node' : Node machine.State) → slice_get d.nodes h ≡ Some node' → h ≡ at
-          → node' ≡ record { state = state_after node.state verdict; machine = machine_after machine node.machine verdict }
-      is_new h node' e is = same_Some _ _ (sym e ∙ ap (slice_get d.nodes) is ∙ at_place)

@@ -1,11 +1,10 @@
 -- What an honest replica keeps stays when more is known, if it made no new statement of the kinds that a part is about.
-use Rattle.std.proofs.Common.{◌≡◌, ℕ, suc, Bool, true, false, cond, ◌||◌, T, eqb, ◌⊎◌, List, Some, None, Option, ⊎_elim}
+use Rattle.std.proofs.Common.{◌≡◌, ℕ, Bool, true, false, ◌||◌, T, ◌⊎◌, List, Some, None, Option, arith}
 use Rattle.wire.specs.declared.config.ClusterConfig.{ClusterConfig}
 use Rattle.wire.specs.declared.entry.LogEntry.{LogEntry}
 use Rattle.wire.specs.declared.request.Request.{Request}
 use Rattle.wire.specs.Laws.{Fits}
-use Rattle.wire.specs.Statements.{Statement, prepare, commit, doubt, report, closing, reply}
-use Rattle.groups.specs.Groups.{primary}
+use Rattle.wire.specs.Statements.{Statement, prepare, commit, report, closing, reply}
 use Rattle.protocol.specs.declared.state.Phase.{Phase}
 use Rattle.protocol.specs.declared.state.State.{State}
 use Rattle.protocol.specs.Facts.{Facts}
@@ -14,7 +13,6 @@ use Rattle.protocol.specs.Rules.{Certified, Backed, Executed, nothing, one_more,
 use Rattle.protocol.specs.Steps.{Effect}
 use Rattle.protocol.specs.Verdicts.{used}
 use Rattle.protocol.specs.Votes.{vote}
-use Rattle.protocol.proofs.Tests.{or_left, or_right}
 use Rattle.protocol.proofs.Parts.{Votes, Prepares, Executes, Replies, Logs, Reports, Closings, Holds, Opens, Inv}
 
 -- ---- kinds of statements
@@ -46,7 +44,7 @@ of_kind kind None = false
 of_kind kind (Some st) = kind st
 
 pub vote_is : (config : ClusterConfig) (v h n : ℕ) (r : Request) → T (is_vote (vote config v h n r))
-vote_is config v h n r = elim (eqb h (primary config v)) as (λ b. T (is_vote (cond b (prepare v n r) (commit v n r)))) [ true ↦ tt | false ↦ tt ]
+vote_is config v h n r = grind arith
 
 module _ {machine : RequestMachine} where
   -- all that was known is known
@@ -69,90 +67,57 @@ module _ {machine : RequestMachine} where
   -- a statement of another kind leaves a kind alone
   pub silent : {facts facts' : Facts machine} {h : ℕ} {statement : Option Statement} → Adds facts facts' h statement
       → (kind : Statement → Bool) → (T (of_kind kind statement) → ⊥) → Silent facts facts' h kind
-  silent adds kind other st t k = ⊎_elim (λ old. old) (λ e. absurd (other (rw e t))) (adds.only st k)
+  silent adds kind other st t k = grind (arith, adds.only st k)
 
 -- ---- what grows by itself
 
 module _ (config : ClusterConfig) {machine : RequestMachine} {facts facts' : Facts machine} (grows : Grows facts facts') where
   pub certified_grows : (v n : ℕ) (r : Request) → Certified config machine facts v n r → Certified config machine facts' v n r
-  certified_grows v n r certified h inside grouped = grows.known h (vote config v h n r) (certified h inside grouped)
+  certified_grows v n r certified = search (arith, grows)
 
   pub executed_grows : {h v k : ℕ} {state : machine.State} → Executed config machine facts h v k state → Executed config machine facts' h v k state
   executed_grows nothing = nothing
   executed_grows {h} {v} (one_more r before certified known) = one_more r (executed_grows before) (certified_grows v _ r certified) (grows.known h _ known)
 
   pub replied_grows : {h v n : ℕ} {r : Request} {outcome : ℕ} → Replied config machine facts h v n r outcome → Replied config machine facts' h v n r outcome
-  replied_grows {v = v} {n = n} {r = r} p =
-      record {
-        before = p.before;
-        numbered = p.numbered;
-        state = p.state;
-        executed = executed_grows p.executed;
-        certified = certified_grows v n r p.certified;
-        gives = p.gives;
-      }
+  replied_grows p = search (arith, p, executed_grows, certified_grows)
 
   pub backed_grows : (from to n : ℕ) (r : Request) → Backed config machine facts from to n r → Backed config machine facts' from to n r
   backed_grows from to n r (v, no_lower, below, certified) = (v, no_lower, below, certified_grows v n r certified)
 
   pub heeded_grows : {v n : ℕ} {r : Request} {x : ℕ} → Heeded config machine facts v n r x → Heeded config machine facts' v n r x
-  heeded_grows {v} {n} {r} {x} heeded =
-      record {
-        entries = heeded.entries;
-        reported = grows.known x _ heeded.reported;
-        highest = λ e at. backed_grows e.view v n r (heeded.highest e at);
-      }
+  heeded_grows heeded = search (arith, grows, heeded)
 
   pub chosen_grows : {h v n : ℕ} {r : Request} → Chosen config machine facts h v n r → Chosen config machine facts' h v n r
-  chosen_grows {h} {v} chosen =
-      record {
-        opened = grows.opened h v chosen.opened;
-        mask = chosen.mask;
-        closed = grows.known h _ chosen.closed;
-        heeds = λ x inside named. heeded_grows (chosen.heeds x inside named);
-      }
+  chosen_grows chosen = search (arith, grows, chosen)
 
   pub closed_before_grows : {h v : ℕ} → ClosedBefore config machine facts h v → ClosedBefore config machine facts' h v
-  closed_before_grows {h} {v} c =
-      record { grouped = c.grouped; holding = c.holding; closed = grows.closed h v c.holding c.closed; enough = c.enough }
+  closed_before_grows c = search (arith, grows, c)
 
   -- ---- the parts
 
   module _ {h : ℕ} where
     pub votes_grow : Silent facts facts' h is_vote → {view : ℕ} {phase : Phase} {prepared : ℕ} {requests : List Request}
         → Votes config machine facts h view phase prepared requests → Votes config machine facts' h view phase prepared requests
-    votes_grow quiet {view} votes =
-        record {
-          none_later = λ v n r k. votes.none_later v n r (old v n r k);
-          in_view = λ n r k. votes.in_view n r (old view n r k);
-          one_vote = λ v n r r' k k'. votes.one_vote v n r r' (old v n r k) (old v n r' k');
-          chosen = λ v n r above k. chosen_grows (votes.chosen v n r above (old v n r k));
-        }
-      where
-        old : (v n : ℕ) (r : Request) → facts'.Known h (vote config v h n r) → facts.Known h (vote config v h n r)
-        old v n r = quiet (vote config v h n r) (vote_is config v h n r)
+    votes_grow quiet votes =
+        let old = λ (v n : ℕ) (r : Request). quiet (vote config v h n r) (vote_is config v h n r) in
+        search (arith, old, votes, chosen_grows)
 
     pub prepares_grow : {view : ℕ} {phase : Phase} {prepared : ℕ} {requests : List Request} {commits : List ℕ}
         → Prepares config machine facts h view phase prepared requests commits → Prepares config machine facts' h view phase prepared requests commits
-    prepares_grow prepares =
-        record { led = λ w k l. grows.known _ _ (prepares.led w k l); heard = λ w k g l inside t. grows.known g _ (prepares.heard w k g l inside t) }
+    prepares_grow prepares = search (arith, grows, prepares)
 
     pub executes_grow : {view : ℕ} {phase : Phase} {executed : ℕ} {state : machine.State}
         → Executes config machine facts h view phase executed state → Executes config machine facts' h view phase executed state
-    executes_grow executes = record { so_far = λ w. executed_grows (executes.so_far w) }
+    executes_grow executes = search (arith, executes, executed_grows)
 
     pub replies_grow : Silent facts facts' h is_reply → {view logged : ℕ} {log : List LogEntry}
         → Replies config machine facts h view logged log → Replies config machine facts' h view logged log
-    replies_grow quiet replies =
-        record {
-          none_later = λ v n r outcome k. replies.none_later v n r outcome (quiet _ tt k);
-          replied = λ v n r outcome k. replied_grows (replies.replied v n r outcome (quiet _ tt k));
-          entered = λ v k r outcome known. replies.entered v k r outcome (quiet _ tt known);
-        }
+    replies_grow quiet replies = search (arith, quiet, replies, replied_grows)
 
     pub logs_grow : {view : ℕ} {phase : Phase} {logged : ℕ} {log : List LogEntry}
         → Logs config machine facts h view phase logged log → Logs config machine facts' h view phase logged log
-    logs_grow logs = record { certified = λ k l. certified_grows _ (suc k) _ (logs.certified k l); none_later = logs.none_later; earlier = logs.earlier }
+    logs_grow logs = search (arith, logs, certified_grows)
 
     pub reports_grow : Silent facts facts' h is_reply → Silent facts facts' h is_report → {view : ℕ}
         → Reports config machine facts h view → Reports config machine facts' h view
@@ -164,23 +129,11 @@ module _ (config : ClusterConfig) {machine : RequestMachine} {facts facts' : Fac
 
     pub closings_grow : Silent facts facts' h is_closing → {view : ℕ} {phase : Phase}
         → Closings config machine facts h view phase → Closings config machine facts' h view phase
-    closings_grow quiet closings =
-        record {
-          none_later = λ w mask k. closings.none_later w mask (quiet _ tt k);
-          in_view = λ mask k. closings.in_view mask (quiet _ tt k);
-          one_closing = λ w mask mask' k k'. closings.one_closing w mask mask' (quiet _ tt k) (quiet _ tt k');
-          closed = λ t above. closed_before_grows (closings.closed t above);
-        }
+    closings_grow quiet closings = search (arith, quiet, closings, closed_before_grows)
 
     pub holds_grow : {view : ℕ} {held : ℕ → Option (List LogEntry)} {noted : ℕ → Option ℕ}
         → Holds config machine facts h view held noted → Holds config machine facts' h view held noted
-    holds_grow holds =
-        record {
-          reported = λ x es e. grows.known x _ (holds.reported x es e);
-          short = holds.short;
-          certified = λ x es e k l. let c = holds.certified x es e k l in (c.0, certified_grows _ (suc k) _ c.1);
-          noted_closing = λ g mask e. grows.known g _ (holds.noted_closing g mask e);
-        }
+    holds_grow holds = search (arith, grows, holds, certified_grows)
 
     pub opens_grow : {view : ℕ} {phase : Phase} {selected : ℕ} {selection : List Request}
         → Opens config machine facts h view phase selected selection → Opens config machine facts' h view phase selected selection
@@ -192,20 +145,19 @@ pub inv_grows : {machine : RequestMachine} {facts facts' : Facts machine} → Gr
 inv_grows {facts = facts} {facts' = facts'} grows {s} quiet inv =
     record {
       shape = inv.shape;
-      votes = votes_grow s.config grows (λ st t. quiet st (or_left (is_vote st) _ t)) inv.votes;
+      votes = votes_grow s.config grows (λ st t. quiet st (grind arith)) inv.votes;
       prepares = prepares_grow s.config grows inv.prepares;
       executes = executes_grow s.config grows inv.executes;
       replies = replies_grow s.config grows no_reply inv.replies;
       logs = logs_grow s.config grows inv.logs;
-      reports = reports_grow s.config grows no_reply (λ st t. quiet st (or_right (is_vote st) _ (or_right (is_reply st) _ (or_left (is_report st) _ t)))) inv.reports;
-      closings =
-          closings_grow s.config grows (λ st t. quiet st (or_right (is_vote st) _ (or_right (is_reply st) _ (or_right (is_report st) _ t)))) inv.closings;
+      reports = reports_grow s.config grows no_reply (λ st t. quiet st (grind arith)) inv.reports;
+      closings = closings_grow s.config grows (λ st t. quiet st (grind arith)) inv.closings;
       holds = holds_grow s.config grows inv.holds;
       opens = opens_grow s.config grows inv.opens;
     }
   where
     no_reply : Silent facts facts' s.number is_reply
-    no_reply st t = quiet st (or_right (is_vote st) _ (or_left (is_reply st) _ t))
+    no_reply st t = quiet st (grind arith)
 
 -- and so if it made a statement that does not matter, or none
 pub inv_adds : {machine : RequestMachine} {facts facts' : Facts machine} {s : State} {state : machine.State} {statement : Option Statement}

@@ -1,5 +1,5 @@
 -- What a replica's accepted calls left behind: replies to what it carried out, closings that name what it held, and a closing before each opening.
-use Rattle.std.proofs.Common.{◌≡◌, ℕ, ◌+◌, ◌<◌, Bool, ◌⊎◌, List, [], ◌∷◌, ◌++◌, Some, Ok, sym, refl, subst, inl, inr, ⊎_elim}
+use Rattle.std.proofs.Common.{◌≡◌, ℕ, ◌+◌, ◌<◌, Bool, ◌⊎◌, List, [], ◌∷◌, ◌++◌, Some, Ok, refl, subst, inl, inr, ⊎_elim, arith}
 use Rattle.wire.specs.declared.config.ClusterConfig.{ClusterConfig}
 use Rattle.wire.specs.declared.request.Request.{Request}
 use Rattle.wire.specs.Statements.{Statement, reply}
@@ -12,28 +12,25 @@ use Rattle.protocol.specs.Rules.{ClosingNames, ClosedBefore}
 use Rattle.protocol.specs.Runs.{Cluster, call, Deed}
 use Rattle.protocol.specs.Selecting.{holds}
 use Rattle.protocol.specs.States.{next_request}
-use Rattle.protocol.specs.Steps.{Act, orders, repeats, hears, carries_out, doubts, reports, closes, opens}
+use Rattle.protocol.specs.Steps.{Act, carries_out, closes, opens}
 use Rattle.protocol.proofs.Grow.{Grows, closed_before_grows}
 
 -- ---- one deed more
 
 pub among_more : (d x : Deed) (ds : List Deed) → Among d ds → Among d (ds ++ x ∷ [])
 among_more d x [] a = absurd a
-among_more d x (e ∷ es) (inl is) = inl is
-among_more d x (e ∷ es) (inr later) = inr (among_more d x es later)
+among_more d x (e ∷ es) a = grind (arith, among_more d x es)
 
 pub among_new : (x : Deed) (ds : List Deed) → Among x (ds ++ x ∷ [])
 among_new x [] = inl refl
 among_new x (e ∷ es) = inr (among_new x es)
 
 among_last : (d x : Deed) (ds : List Deed) → Among d (ds ++ x ∷ []) → Among d ds ⊎ (d ≡ x)
-among_last d x [] (inl is) = inr is
-among_last d x [] (inr later) = absurd later
-among_last d x (e ∷ es) (inl is) = inl (inl is)
-among_last d x (e ∷ es) (inr later) = ⊎_elim (λ old. inl (inr old)) inr (among_last d x es later)
+among_last d x [] a = grind arith
+among_last d x (e ∷ es) a = grind (arith, among_last d x es)
 
-accepted_more : {h : ℕ} {act : Act} {s : State} {answer : ℕ} (x : Deed) (ds : List Deed) → Accepted ds h act s answer → Accepted (ds ++ x ∷ []) h act s answer
-accepted_more x ds a = record { room = a.room; done = among_more _ x ds a.done }
+accepted_more : (x : Deed) (ds : List Deed) (h : ℕ) (act : Act) (s : State) (answer : ℕ) → Accepted ds h act s answer → Accepted (ds ++ x ∷ []) h act s answer
+accepted_more x ds h act s answer a = record { room = a.room; done = among_more _ x ds a.done }
 
 -- the deed is an accepted call of replica h
 abbrev pub IsCall : Deed → (h : ℕ) → Act → State → (answer : ℕ) → Type 0
@@ -41,7 +38,10 @@ IsCall x h act s answer = (room : ℕ) × (x ≡ record { event = call h room ac
 
 accepted_last : {h : ℕ} {act : Act} {s : State} {answer : ℕ} (x : Deed) (ds : List Deed) → Accepted (ds ++ x ∷ []) h act s answer
     → Accepted ds h act s answer ⊎ IsCall x h act s answer
-accepted_last x ds a = ⊎_elim (λ old. inl (record { room = a.room; done = old })) (λ is. inr (a.room, sym is)) (among_last _ x ds a.done)
+accepted_last x ds a = grind (arith, among_last _ x ds a.done)
+
+pub accepted_new : {h : ℕ} {act : Act} {s : State} {answer : ℕ} (x : Deed) (ds : List Deed) → IsCall x h act s answer → Accepted (ds ++ x ∷ []) h act s answer
+accepted_new x ds is = record { room = is.0; done = subst (λ (d : Deed). Among d (ds ++ x ∷ [])) is.1 (among_new x ds) }
 
 module _ (config : ClusterConfig) (machine : RequestMachine) (byzantine : ℕ → Bool) (ds : List Deed) (c : Cluster machine.State) (x : Deed) (d : Cluster machine.State) where
   abbrev before : Facts machine
@@ -51,15 +51,7 @@ module _ (config : ClusterConfig) (machine : RequestMachine) (byzantine : ℕ �
   after = facts_of config machine byzantine (ds ++ x ∷ []) d
 
   pub history_grows : ((h : ℕ) (st : Statement) → Made config c.sealed h st → Made config d.sealed h st) → Grows before after
-  history_grows known =
-      record {
-        known = known;
-        opened = λ h v o. record { state = o.state; answer = o.answer; accepted = accepted_more x ds o.accepted; in_view = o.in_view };
-        closed = λ h v holding o.
-            record { state = o.state; answer = o.answer; accepted = accepted_more x ds o.accepted; in_view = o.in_view; held = o.held };
-        carried = λ h v n r outcome o.
-            record { state = o.state; accepted = accepted_more x ds o.accepted; in_view = o.in_view; numbered = o.numbered; requested = o.requested };
-      }
+  history_grows known = search (arith, known, accepted_more x ds)
 
 -- ---- what is left behind
 
@@ -85,25 +77,17 @@ module _ (config : ClusterConfig) (machine : RequestMachine) (byzantine : ℕ �
   past_more h past leaves =
       record {
         carries = λ v n r outcome o.
-            ⊎_elim
-            (λ old. grows.known h _
-            (past.carries v n r outcome
-            (record { state = o.state; accepted = old; in_view = o.in_view; numbered = o.numbered; requested = o.requested })))
-            (λ is. rw (← o.in_view, o.numbered, o.requested) (leaves carries_out o.state outcome is))
+            ⊎_elim (λ old. grows.known h _ (past.carries v n r outcome (search (arith, old, o)))) (λ is. rw (← o.in_view, o.numbered, o.requested) (leaves carries_out o.state outcome is))
             (accepted_last x ds o.accepted);
         closes = λ v holding o.
             ⊎_elim
-            (λ old.
-            let p = past.closes v holding (record { state = o.state; answer = o.answer; accepted = old; in_view = o.in_view; held = o.held }) in
-            record { mask = p.mask; closed = grows.known h _ p.closed; naming = p.naming })
+            (λ old. let p = past.closes v holding (search (arith, old, o)) in record { mask = p.mask; closed = grows.known h _ p.closed; naming = p.naming })
             (λ is.
             let p = leaves closes o.state o.answer is in
             record { mask = p.mask; closed = rw (← o.in_view) p.closed; naming = λ y inside t. p.naming y inside (o.held y t) })
             (accepted_last x ds o.accepted);
         opens = λ v above o.
-            ⊎_elim
-            (λ old. closed_before_grows config grows (past.opens v above (record { state = o.state; answer = o.answer; accepted = old; in_view = o.in_view })))
-            (λ is. subst (λ (w : ℕ). 0 < w → ClosedBefore config machine (after config machine byzantine ds c x d) h w) o.in_view
-            (leaves opens o.state o.answer is) above)
+            ⊎_elim (λ old. closed_before_grows config grows (past.opens v above (search (arith, old, o))))
+            (λ is. rw o.in_view at (leaves opens o.state o.answer is (rw o.in_view above)))
             (accepted_last x ds o.accepted);
       }

@@ -1,74 +1,28 @@
 -- What the register knows: a statement's message is no other's, so sealing one adds that statement alone, and bytes that read and are sealed were stated.
-use Rattle.std.proofs.Common.{◌≡◌, ℕ, zero, suc, ◌+◌, ◌*◌, ◌^◌, ◌<◌, ◌≤◌, Bool, true, false, cond, not, ◌&&◌, T, eqb, ltb, leb, ◌⊎◌, List, [], ◌∷◌, length, get_or, None, Ok, Option, Result, sym, refl, ap, ◌∙◌, subst, inl, inr, ⊎_elim, not-suc-le-zero, arith, le→leb, eqb→eq, ltb→lt, lt→ltb, leb→le}
-use lib.Dec.{eqb_refl}
+use Rattle.std.proofs.Common.{◌≡◌, ℕ, zero, suc, ◌+◌, ◌*◌, ◌<◌, ◌≤◌, Bool, T, ◌⊎◌, List, [], ◌∷◌, length, get_or, None, Ok, refl, subst, not-suc-le-zero, arith}
 use Rattle.std.proofs.lemmas.Bool.Decides.{nat_tests}
 use Rattle.std.proofs.lemmas.Slice.Eq.{bytes_eq-Decides}
 use Rattle.wire.specs.declared.config.ClusterConfig.{ClusterConfig}
 use Rattle.wire.specs.declared.entry.LogEntry.{LogEntry}
-use Rattle.wire.specs.declared.fault.ReadFault.{ReadFault}
 use Rattle.wire.specs.declared.request.Request.{Request}
 use Rattle.wire.specs.Bytes.{Bytes}
 use Rattle.wire.specs.Configs.{replicas}
-use Rattle.wire.specs.Kinds.{numbered, last_view, last_number}
+use Rattle.wire.specs.Kinds.{last_view, last_number}
 use Rattle.wire.specs.Laws.{Fits}
-use Rattle.wire.specs.Reading.{reading, may_close}
-use Rattle.wire.specs.Statements.{Statement, Said, prepare, commit, doubt, report, closing, reply, view_of}
-use Rattle.wire.specs.Writing.{field, late_entry, misfit_body}
+use Rattle.wire.specs.Reading.{reading}
+use Rattle.wire.specs.Statements.{Statement, Said, report}
+use Rattle.wire.specs.Writing.{late_entry}
 use Rattle.wire.proofs.Laws.{written_reads, read_is_written}
-use Rattle.groups.specs.Groups.{primary}
 use Rattle.protocol.specs.Certificates.{message, known}
 use Rattle.protocol.specs.Receipts.{Made}
 use Rattle.protocol.specs.Verdicts.{added}
 use Rattle.protocol.specs.Votes.{vote}
-use Rattle.protocol.proofs.Quorum.{each_passes}
-use Rattle.protocol.proofs.Tests.{is_true, is_false, one_passes, or_left, or_right}
-
--- ---- votes by role
-
-pub vote_primary : (config : ClusterConfig) (view h number : ℕ) (r : Request) → T (eqb h (primary config view)) → vote config view h number r ≡ prepare view number r
-vote_primary config view h number r t = grind arith
-
-pub vote_follower : (config : ClusterConfig) (view h number : ℕ) (r : Request) → T (not (eqb h (primary config view))) → vote config view h number r ≡ commit view number r
-vote_follower config view h number r t = grind arith
-
--- what holds of both kinds of vote holds of a vote
-pub of_vote : (config : ClusterConfig) (P : Statement → Type 0) (view h number : ℕ) (r : Request)
-    → P (prepare view number r) → P (commit view number r) → P (vote config view h number r)
-of_vote config P view h number r a b = go (eqb h (primary config view))
-  where
-    go : (leads : Bool) → P (cond leads (prepare view number r) (commit view number r))
-    go true = a
-    go false = b
-
-pub vote_equal : (config : ClusterConfig) (view view' h number number' : ℕ) (r r' : Request)
-    → vote config view h number r ≡ vote config view' h number' r' → (view ≡ view') × (number ≡ number') × (r ≡ r')
-vote_equal config view view' h number number' r r' e = grind arith
 
 -- ---- statements in range
-
-pub fits : (config : ClusterConfig) (h : ℕ) (s : Statement) → h < replicas config → view_of s ≤ last_view → misfit_body config s ≡ None → Fits config h s
-fits config h s inside small body = grind (arith, nat_tests)
-
-pub fits_parts : (config : ClusterConfig) (h : ℕ) (s : Statement) → Fits config h s → (h < replicas config) × (view_of s ≤ last_view) × (misfit_body config s ≡ None)
-fits_parts config h s e = grind (arith, nat_tests)
 
 pub fits_vote : (config : ClusterConfig) (h view number : ℕ) (r : Request) → h < replicas config → view ≤ last_view → 0 < number → number ≤ last_number
     → Fits config h (vote config view h number r)
 fits_vote config h view number r inside small some few = grind (arith, nat_tests)
-
-pub vote_fits : (config : ClusterConfig) (h view number : ℕ) (r : Request) → Fits config h (vote config view h number r)
-    → (h < replicas config) × (view ≤ last_view) × (0 < number) × (number ≤ last_number)
-vote_fits config h view number r e = grind (arith, nat_tests)
-
-pub fits_reply : (config : ClusterConfig) (h view number : ℕ) (r : Request) (outcome : ℕ) → h < replicas config → view ≤ last_view → 0 < number → number ≤ last_number
-    → outcome < 2 ^ 64 → Fits config h (reply view number r outcome)
-fits_reply config h view number r outcome inside small some few word = grind (arith, nat_tests)
-
-pub fits_doubt : (config : ClusterConfig) (h view : ℕ) → h < replicas config → view ≤ last_view → Fits config h (doubt view)
-fits_doubt config h view inside small = fits config h (doubt view) inside small refl
-
-pub fits_closing : (config : ClusterConfig) (h view mask : ℕ) → h < replicas config → view ≤ last_view → T (may_close config mask) → Fits config h (closing view mask)
-fits_closing config h view mask inside small may = grind (arith, nat_tests)
 
 -- the entries of a report are of earlier views
 early : (view offset : ℕ) (es : List LogEntry) → late_entry view offset es ≡ None → (k : ℕ) (d : LogEntry) → k < length es → (get_or es k d).view < view

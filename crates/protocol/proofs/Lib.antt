@@ -7,7 +7,6 @@ pub mod Tests
 pub mod Grow
 pub mod Masks
 pub mod Known
-pub mod Idle
 pub mod Voting
 pub mod Executing
 pub mod Turning

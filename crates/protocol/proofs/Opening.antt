@@ -1,5 +1,5 @@
 -- Opening keeps what an honest replica keeps: what is selected gives each vote of the opened view its reasons.
-use Rattle.std.proofs.Common.{◌≡◌, ℕ, suc, ◌<◌, Bool, not, ◌||◌, T, List, get_or, is_some, Some, None, Option, sym, refl, ◌∙◌, not-suc-le-zero, arith}
+use Rattle.std.proofs.Common.{◌≡◌, ℕ, suc, ◌<◌, Bool, not, ◌||◌, T, List, get_or, is_some, Some, None, Option, sym, refl, ◌∙◌, arith}
 use Rattle.std.specs.List.{slice_get}
 use Rattle.std.proofs.lemmas.List.{length-replicate}
 use Rattle.std.proofs.lemmas.Option.{slice_get_within, get_or_from_slice_get}
@@ -8,9 +8,8 @@ use Rattle.wire.specs.declared.request.Request.{Request}
 use Rattle.wire.specs.Kinds.{last_number}
 use Rattle.wire.specs.Statements.{Statement}
 use Rattle.groups.specs.Groups.{group}
-use Rattle.protocol.specs.declared.fault.ReplicaFault.TheVariants.{NotAllowed, TooFew, NamedReportMissing}
 use Rattle.protocol.specs.declared.state.Phase.{Phase}
-use Rattle.protocol.specs.declared.state.Phase.TheVariants.{Working, Aside, Turning, Gathering, Closed}
+use Rattle.protocol.specs.declared.state.Phase.TheVariants.{Closed}
 use Rattle.protocol.specs.declared.state.State.{State}
 use Rattle.protocol.specs.Facts.{Facts}
 use Rattle.protocol.specs.Replay.{RequestMachine}
@@ -21,7 +20,7 @@ use Rattle.protocol.specs.Steps.{Effect, renew, accepted, all_noted, open_step}
 use Rattle.protocol.proofs.Choosing.{counted, counts_held, picks, selects_past, choices_at}
 use Rattle.protocol.proofs.Grow.{Keeps, inv_adds}
 use Rattle.protocol.proofs.Parts.{Inv}
-use Rattle.protocol.proofs.Tests.{then_passes, every_at, all_at, any_in, needed, as_accepted}
+use Rattle.protocol.proofs.Tests.{every_at, all_at, any_in, as_accepted}
 
 -- what an option has
 the_some : {A : Type 0} (o : Option A) → T (is_some o) → (a : A) × (o ≡ Some a)
@@ -52,12 +51,8 @@ module _ (machine : RequestMachine) (facts : Facts machine) (s : State) (state :
   heeded : (k : ℕ) (r : Request) → (k < selects s → r ≡ get_or (choices s) k blank) → (x : ℕ) → x < peers s → T (named s x)
       → Heeded s.config machine facts s.view (suc k) r x
   heeded k r select x l t =
-      let there = the_some (held s x) (then_passes (named s x) (holds s x) (all_at (peers s) (λ x. not (named s x) || holds s x) holding x l) t) in
-      record {
-        entries = there.0;
-        reported = inv.holds.reported x there.0 there.1;
-        highest = λ e at. backed x k there.0 e r select l t there.1 at;
-      }
+      let there = the_some (held s x) (grind (arith, all_at (peers s) (λ x. not (named s x) || holds s x) holding x l)) in
+      record { entries = there.0; reported = inv.holds.reported x there.0 there.1; highest = λ e. backed x k there.0 e r select l t there.1 }
 
   chooses : (k : ℕ) (r : Request) → (k < selects s → r ≡ get_or (choices s) k blank) → Chosen s.config machine facts s.number s.view (suc k) r
   chooses k r select =
@@ -89,10 +84,10 @@ module _ (machine : RequestMachine) (facts : Facts machine) (s : State) (state :
       }
 
 -- an accepted open keeps all
-pub open_keeps : (sealed : ℕ → List ℕ → Bool) (fits : ℕ → Bool) (room : ℕ) (machine : RequestMachine) (facts facts' : Facts machine) (s : State) (state : machine.State)
-    → Inv machine facts s state → (s' : State) (effect : Effect) (statement : Option Statement) (answer : ℕ) → facts'.Opened s.number s.view
+pub open_keeps : (sealed : ℕ → List ℕ → Bool) (fits : ℕ → Bool) (room : ℕ) {machine : RequestMachine} {facts facts' : Facts machine} {s : State} {state : machine.State}
+    → Inv machine facts s state → {s' : State} {effect : Effect} {statement : Option Statement} {answer : ℕ} → facts'.Opened s.number s.view
     → open_step sealed fits room s ≡ accepted s' effect statement answer → Keeps facts facts' s state s' effect statement
-open_keeps sealed fits room machine facts facts' s state inv s' effect statement answer opened e =
+open_keeps sealed fits room {machine} {facts} {facts'} {s} {state} inv {s'} {effect} {statement} {answer} opened e =
     let is : T (closed s.phase) × T (all_noted s) × T (holds_all s (named s))
     × (accepted (with_selection s (selects s) (choices s)) renew None (selects s) ≡ accepted s' effect statement answer) = grind arith in
     as_accepted (Keeps facts facts' s state) is.3

@@ -10,7 +10,7 @@ use Rattle.wire.specs.Kinds.{last_view, last_number}
 use Rattle.wire.specs.Statements.{prepare, commit, report, closing, reply}
 use Rattle.groups.specs.Groups.{primary}
 use Rattle.protocol.specs.declared.state.Phase.{Phase}
-use Rattle.protocol.specs.declared.state.Phase.TheVariants.{Working, Aside, Turning, Gathering, Closed}
+use Rattle.protocol.specs.declared.state.Phase.TheVariants.{Working, Aside, Turning, Closed}
 use Rattle.protocol.specs.declared.state.State.{State}
 use Rattle.protocol.specs.Facts.{Facts}
 use Rattle.protocol.specs.Replay.{RequestMachine}

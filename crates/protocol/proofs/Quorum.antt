@@ -1,15 +1,9 @@
 -- Counting replicas: two sets that together have more than n members below n share one.
-use Rattle.std.proofs.Common.{◌≡◌, ℕ, zero, suc, ◌+◌, ◌<◌, ◌≤◌, Bool, true, false, not, ◌&&◌, T, refl, subst, not-suc-le-zero, arith}
+use Rattle.std.proofs.Common.{◌≡◌, ℕ, zero, suc, ◌+◌, ◌<◌, ◌≤◌, Bool, not, ◌&&◌, T, refl, not-suc-le-zero, arith}
 use Rattle.wire.specs.Counting.{count}
 
--- both of two tests pass, and each
-pub both_pass : (a b : Bool) → T a → T b → T (a && b)
-both_pass true b t u = u
-both_pass false b t u = t
-
 pub each_passes : (a b : Bool) → T (a && b) → T a × T b
-each_passes true b t = (tt, t)
-each_passes false b t = absurd t
+each_passes a b t = grind arith
 
 -- tests that together pass more than n times below n pass together at some number
 pub share : (n : ℕ) (p q : ℕ → Bool) → n < count n p + count n q → (k : ℕ) × (k < n) × T (p k) × T (q k)

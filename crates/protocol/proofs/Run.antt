@@ -1,90 +1,21 @@
 -- Every run of a new cluster keeps what its honest replicas keep: each event by its caller's step, and for the others because more is known.
-use Rattle.std.proofs.Common.{◌≡◌, ℕ, min, Bool, true, false, cond, not, ◌||◌, T, List, [], ◌∷◌, ◌++◌, length, set, Some, None, Ok, Err, Option, Result, sym, refl, ap, ◌∙◌, subst, arith}
+use Rattle.std.proofs.Common.{◌≡◌, ℕ, min, Bool, true, false, cond, ◌||◌, List, [], ◌∷◌, ◌++◌, length, Some, None, Option, Result, refl, ap, arith}
 use Rattle.std.specs.List.{slice_get}
-use Rattle.std.specs.Option.{option_map}
 use Rattle.std.proofs.lemmas.Option.{none-some}
 use Rattle.wire.specs.declared.config.ClusterConfig.{ClusterConfig}
 use Rattle.wire.specs.Statements.{Statement}
 use Rattle.protocol.specs.declared.fault.ReplicaFault.{ReplicaFault}
-use Rattle.protocol.specs.declared.state.State.{State}
-use Rattle.protocol.specs.Agreement.{facts_of, Covers}
-use Rattle.protocol.specs.Facts.{Facts}
+use Rattle.protocol.specs.Agreement.{Covers}
 use Rattle.protocol.specs.Receipts.{Made}
 use Rattle.protocol.specs.Replay.{RequestMachine}
-use Rattle.protocol.specs.Runs.{Node, Cluster, Event, call, byzantine_seal, Deed, Word, HeardBytes, Happens, Run, none, more, New, caller, called}
-use Rattle.protocol.specs.Steps.{Act, Verdict, refused, accepted, step}
-use Rattle.protocol.specs.Verdicts.{answer_of, state_after, machine_after, sealed_after, added}
-use Rattle.protocol.proofs.Grow.{Adds, InRange, Keeps, inv_adds}
-use Rattle.protocol.proofs.History.{Leaves, IsCall, among_more, among_new}
+use Rattle.protocol.specs.Runs.{Node, Cluster, Event, call, byzantine_seal, Deed, Happens, Run, none, more, New, caller}
+use Rattle.protocol.specs.Verdicts.{added}
+use Rattle.protocol.proofs.History.{among_more, among_new}
 use Rattle.protocol.proofs.Known.{made_kept, made_by_others}
-use Rattle.protocol.proofs.Stepping.{SamePlace, step_same, step_leaves, step_keeps}
-use Rattle.protocol.proofs.Clusters.{Kept, still_kept, shows, adding, moved_kept}
+use Rattle.protocol.proofs.Clusters.{Kept, still_kept, call_kept}
 use Rattle.protocol.proofs.Starting.{new_kept}
 
-err_not_ok : {fault : ReplicaFault} {a : ℕ} → ◌≡◌ {A = Result ℕ ReplicaFault} (Err fault) (Ok a) → ⊥
-err_not_ok e = let z : ◌≡◌ {A = ℕ} 0 1 = cc in omega arith
-
-ok_equal : (a b : ℕ) → ◌≡◌ {A = Result ℕ ReplicaFault} (Ok a) (Ok b) → a ≡ b
-ok_equal a b e = cc
-
-seal_no_call : {h at room : ℕ} {bytes : List ℕ} {act : Act} → byzantine_seal h bytes ≡ call at room act → ⊥
-seal_no_call e = let z : ◌≡◌ {A = ℕ} 0 1 = cc in omega arith
-
-pass_not : (b : Bool) → T b → T (not b) → ⊥
-pass_not true t n = n
-pass_not false t n = t
-
 module _ (config : ClusterConfig) (machine : RequestMachine) (byzantine : ℕ → Bool) where
-  call_kept : (ds : List Deed) (c : Cluster machine.State) (kept : Kept config machine byzantine ds c) (at room given : ℕ) (act : Act) (node : Node machine.State)
-      (found : slice_get c.nodes at ≡ Some node) (answer : Result ℕ ReplicaFault) (d : Cluster machine.State) → Word answer → HeardBytes act
-      → (verdict : Verdict) → step c.sealed c.fits room (λ r. (machine.step node.machine r).1) node.state act ≡ verdict
-      → answer ≡ answer_of verdict
-      → d.nodes ≡ set c.nodes at (record { state = state_after node.state verdict; machine = machine_after machine node.machine verdict })
-      → d.sealed ≡ sealed_after c.sealed node.state.number verdict
-      → Kept config machine byzantine (ds ++ record { event = call at given act; was = Some node.state; gave = answer } ∷ []) d
-  call_kept ds c kept at room given act node found answer d word heard (refused fault) judges answers nodes sealing =
-      moved_kept config machine byzantine ds c kept at act node found answer d given (refused fault) nodes sealing tt
-      (λ honest.
-      inv_adds (adding config machine byzantine ds c kept at act node found answer d given (refused fault) nodes sealing tt) (λ t. t) (kept.keeps at node found honest))
-      (λ honest a is. absurd (err_not_ok (sym answers ∙ is)))
-  call_kept ds c kept at room given act node found answer d word heard (accepted s' effect statement a) judges answers nodes sealing =
-      moved_kept config machine byzantine ds c kept at act node found answer d given (accepted s' effect statement a) nodes sealing
-      (subst (SamePlace node.state) judges (step_same node.state c.sealed c.fits room (λ r. (machine.step node.machine r).1) act))
-      (λ honest. (kept_now honest).keeps (adds_now honest))
-      (λ honest a' is.
-      let same : a ≡ a' = ok_equal a a' (sym answers ∙ is) in
-      subst (λ (u : ℕ). Leaves config machine now at node.state act u) same
-      (subst (λ (h : ℕ). Leaves config machine now h node.state act a) named.0
-      (subst (λ (k : ClusterConfig). Leaves k machine now node.state.number node.state act a) named.1
-      (step_leaves machine was now c.sealed c.fits room node.state node.machine (kept.keeps at node found honest) s' effect statement a (adds_now honest)
-      (λ r. (machine.step node.machine r).1) act judges))))
-    where
-      deed : Deed
-      deed = record { event = call at given act; was = Some node.state; gave = answer }
-
-      was : Facts machine
-      was = facts_of config machine byzantine ds c
-
-      now : Facts machine
-      now = facts_of config machine byzantine (ds ++ deed ∷ []) d
-
-      named : (node.state.number ≡ at) × (node.state.config ≡ config)
-      named = kept.placed at node found
-
-      is_deed : IsCall deed node.state.number act node.state a
-      is_deed = (given, rw (named.0, answers))
-
-      kept_now : T (not (byzantine at)) → Keeps was now node.state node.machine s' effect statement
-      kept_now honest =
-          step_keeps machine was now c.sealed c.fits room node.state node.machine (kept.keeps at node found honest)
-          (λ x st. subst (λ (k : ClusterConfig). Made k c.sealed x st) named.1) s' effect statement a (subst Word answers word) act heard
-          (shows config machine byzantine ds deed d node.state act a is_deed) judges
-
-      adds_now : T (not (byzantine at)) → Adds was now node.state.number statement
-      adds_now honest =
-          adding config machine byzantine ds c kept at act node found answer d given (accepted s' effect statement a) nodes sealing
-          (subst (λ (k : ClusterConfig). InRange k node.state.number statement) named.1 (kept_now honest).in_range)
-
   event_kept : (ds : List Deed) (c : Cluster machine.State) → Kept config machine byzantine ds c → (e : Event) (answer : Result ℕ ReplicaFault) (d : Cluster machine.State)
       → Happens machine c e answer d → Covers byzantine (ds ++ record { event = e; was = caller machine c e; gave = answer } ∷ [])
       → Kept config machine byzantine (ds ++ record { event = e; was = caller machine c e; gave = answer } ∷ []) d
@@ -93,33 +24,20 @@ module _ (config : ClusterConfig) (machine : RequestMachine) (byzantine : ℕ �
       go : (place : Option (Node machine.State)) → slice_get c.nodes at ≡ place
           → Kept config machine byzantine (ds ++ record { event = call at room act; was = caller machine c (call at room act); gave = answer } ∷ []) d
       go None found =
-          still_kept config machine byzantine ds c kept _ d (happens.nodes ∙ ap (λ p. (called machine c at room act p).nodes) found)
-          (λ h act' s a is. none-some s (sym (ap (option_map (λ node. node.state)) found) ∙ ap (λ (x : Deed). x.was) is.1))
-          (λ g st. subst (λ (f : ℕ → List ℕ → Bool). Made config f g st) (sym (happens.sealed ∙ ap (λ p. (called machine c at room act p).sealed) found)))
-          (λ g honest st. subst (λ (f : ℕ → List ℕ → Bool). Made config f g st) (happens.sealed ∙ ap (λ p. (called machine c at room act p).sealed) found))
+          still_kept config machine byzantine ds c kept _ d (rw found at happens.nodes)
+          (λ h act' s a is. none-some s (rw found at (ap (λ (x : Deed). x.was) is.1)))
+          (λ g st made. rw (happens.sealed, found) made) (λ g honest st made. rw (happens.sealed, found) at made)
       go (Some node) found =
-          subst (λ (was : Option State). Kept config machine byzantine (ds ++ record { event = call at room act; was = was; gave = answer } ∷ []) d)
-          (sym (ap (option_map (λ node. node.state)) found))
-          (call_kept ds c kept at (min room (length c.out)) room act node found answer d happens.word happens.sayable _ refl
-          (happens.answers ∙ ap (λ p. (called machine c at room act p).answer) found)
-          (happens.nodes ∙ ap (λ p. (called machine c at room act p).nodes) found)
-          (happens.sealed ∙ ap (λ p. (called machine c at room act p).sealed) found))
+          rw found
+          (call_kept config machine byzantine ds c kept at (min room (length c.out)) room act node found answer d happens.word happens.sayable _ refl
+          (rw found at happens.answers) (rw found at happens.nodes) (rw found at happens.sealed))
   event_kept ds c kept (byzantine_seal h bytes) answer d happens covers =
       still_kept config machine byzantine ds c kept _ d happens.nodes
-      (λ g act s a is. seal_no_call (ap (λ (x : Deed). x.event) is.1))
-      (λ g st made. subst (λ (f : ℕ → List ℕ → Bool). Made config f g st) (sym happens.sealed) (more (c.sealed h bytes || c.fits (length bytes)) g st made))
+      (λ g act s a is. let event = ap (λ (x : Deed). x.event) is.1 in cc)
+      (λ g st made. rw happens.sealed (grind (arith, made_kept config c.sealed h bytes g st made)))
       (λ g honest st made.
-      less (c.sealed h bytes || c.fits (length bytes)) g st
-      (λ is. pass_not (byzantine g) (subst (λ (x : ℕ). T (byzantine x)) (sym is) (covers h bytes answer (among_new _ ds))) honest)
-      (subst (λ (f : ℕ → List ℕ → Bool). Made config f g st) happens.sealed made))
-    where
-      more : (taken : Bool) (g : ℕ) (st : Statement) → Made config c.sealed g st → Made config (cond taken (added c.sealed h bytes) c.sealed) g st
-      more true g st made = made_kept config c.sealed h bytes g st made
-      more false g st made = made
-
-      less : (taken : Bool) (g : ℕ) (st : Statement) → (g ≡ h → ⊥) → Made config (cond taken (added c.sealed h bytes) c.sealed) g st → Made config c.sealed g st
-      less true g st apart made = made_by_others config c.sealed h bytes g st apart made
-      less false g st apart made = made
+      let was = rw happens.sealed at made in
+      grind (arith, covers h bytes answer (among_new _ ds), made_by_others config c.sealed h bytes g st))
 
   pub run_kept : (first : Cluster machine.State) → New machine config first → {ds : List Deed} {c : Cluster machine.State} → Run machine first ds c
       → Covers byzantine ds → Kept config machine byzantine ds c

@@ -1,5 +1,5 @@
 -- What is made, once a replica made a statement or none.
-use Rattle.std.proofs.Common.{◌≡◌, ℕ, Bool, ◌⊎◌, List, Some, None, Option, sym, refl, ap, inl, inr, ⊎_elim}
+use Rattle.std.proofs.Common.{◌≡◌, ℕ, Bool, ◌⊎◌, List, Some, None, Option, refl, inl, arith}
 use Rattle.wire.specs.declared.config.ClusterConfig.{ClusterConfig}
 use Rattle.wire.specs.Statements.{Statement}
 use Rattle.protocol.specs.Certificates.{message}
@@ -8,7 +8,6 @@ use Rattle.protocol.specs.Steps.{Verdict, refused, accepted}
 use Rattle.protocol.specs.Verdicts.{sealed_after, added}
 use Rattle.protocol.proofs.Grow.{InRange}
 use Rattle.protocol.proofs.Known.{made_kept, made_by_others, made_new, made_after}
-use Rattle.std.proofs.lemmas.Option.{none-some}
 
 -- the statement that a verdict seals
 abbrev pub statement_of : Verdict → Option Statement
@@ -35,10 +34,10 @@ module _ (config : ClusterConfig) (sealed : ℕ → List ℕ → Bool) (h : ℕ)
   said_by_others (Some new) g st apart made = made_by_others config sealed h (message h new) g st apart made
 
   pub said_new : (statement : Option Statement) → InRange config h statement → (st : Statement) → statement ≡ Some st → Made config (sealed_said sealed h statement) h st
-  said_new None range st e = absurd (none-some st e)
+  said_new None range st e = cc
   said_new (Some new) range st e = let is : new ≡ st = cc in rw (← is) (made_new config sealed h new range)
 
   pub said_only : (statement : Option Statement) → InRange config h statement → (st : Statement) → Made config (sealed_said sealed h statement) h st
       → Made config sealed h st ⊎ (statement ≡ Some st)
   said_only None range st made = inl made
-  said_only (Some new) range st made = ⊎_elim (λ old. inl old) (λ is. inr (ap Some (sym is.1))) (made_after config sealed h new range h st made)
+  said_only (Some new) range st made = grind (arith, made_after config sealed h new range h st made)

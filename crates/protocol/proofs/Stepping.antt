@@ -1,147 +1,65 @@
 -- Every accepted call of an honest replica keeps what it keeps, and leaves behind what it has to; no call alters a replica's number or config.
-use Rattle.std.proofs.Common.{◌≡◌, ℕ, ◌+◌, ◌-◌, ◌^◌, ◌<◌, Bool, true, false, cond, not, ◌&&◌, ◌||◌, T, eqb, ltb, leb, List, is_some, Some, None, Ok, Err, Option, Result, refl, eqb→eq}
-use Rattle.wire.specs.declared.entry.LogEntry.{LogEntry}
+use Rattle.std.proofs.Common.{◌≡◌, ℕ, ◌^◌, ◌<◌, Bool, T, List, Some, Ok, Err, Option, Result, refl, arith, eqb→eq}
 use Rattle.wire.specs.declared.fault.ReadFault.{ReadFault}
 use Rattle.wire.specs.declared.request.Request.{Request}
 use Rattle.wire.specs.Bytes.{Bytes}
-use Rattle.wire.specs.Configs.{faults}
-use Rattle.wire.specs.Counting.{count, names}
-use Rattle.wire.specs.Kinds.{last_view, last_number}
 use Rattle.wire.specs.Reading.{reading}
 use Rattle.wire.specs.Statements.{Statement, Said, prepare, commit, doubt, report, closing, reply, view_of}
 use Rattle.seals.specs.declared.fault.RegisterFault.TheVariants.{Unknown}
-use Rattle.protocol.specs.declared.fault.ReplicaFault.{ReplicaFault}
-use Rattle.protocol.specs.declared.fault.ReplicaFault.TheVariants.{Read, Register, WrongView, NotAllowed, NotEntitled, OutOfTurn, TooFew}
-use Rattle.protocol.specs.declared.state.Phase.TheVariants.{Closed}
+use Rattle.protocol.specs.declared.fault.ReplicaFault.TheVariants.{Register, WrongView, NotAllowed, NotEntitled}
 use Rattle.protocol.specs.declared.state.State.{State}
-use Rattle.protocol.specs.Certificates.{size, uncertified}
 use Rattle.protocol.specs.Facts.{Facts}
 use Rattle.protocol.specs.Receipts.{Made}
 use Rattle.protocol.specs.Replay.{RequestMachine}
 use Rattle.protocol.specs.Runs.{HeardBytes}
-use Rattle.protocol.specs.Selecting.{peers, holds, held_mask, holds_all, named}
-use Rattle.protocol.specs.States.{working, turning, gathering, closed, active, leads, prepared_at, selected_at, commits_at, next_request, entries, noted, with_prepared, with_executed, turned, with_closing, reported}
-use Rattle.protocol.specs.Steps.{Effect, rest, execute, Verdict, refused, accepted, need, same, allows, entitles, all_heard, all_noted, seals, hold, hear_kind, hear_read, carry_out_step, close_step, open_step, Act, orders, repeats, hears, carries_out, doubts, reports, closes, opens, step}
+use Rattle.protocol.specs.Selecting.{peers, holds, held_mask}
+use Rattle.protocol.specs.Steps.{Effect, Verdict, accepted, need, same, allows, entitles, hear_kind, hear_read, close_step, open_step, Act, orders, repeats, hears, carries_out, doubts, reports, closes, opens, step}
+use Rattle.protocol.specs.Verdicts.{state_after}
 use Rattle.protocol.proofs.Grow.{Adds, Keeps, closed_before_grows}
 use Rattle.protocol.proofs.History.{Leaves}
 use Rattle.protocol.proofs.Known.{made_heard}
 use Rattle.protocol.proofs.Masks.{mask_names_passing}
 use Rattle.protocol.proofs.Parts.{Inv}
-use Rattle.protocol.proofs.Tests.{refused_not, needed, sealing}
 use Rattle.protocol.proofs.Voting.{order_keeps, repeat_keeps, hear_prepare_keeps, hear_commit_keeps}
 use Rattle.protocol.proofs.Executing.{carry_out_keeps}
 use Rattle.protocol.proofs.Turning.{doubt_keeps, hear_doubt_keeps}
 use Rattle.protocol.proofs.Reporting.{report_keeps, hear_report_keeps}
 use Rattle.protocol.proofs.Closing.{close_keeps, hear_closing_keeps}
-use Rattle.protocol.proofs.Opening.{is_closed, open_keeps}
+use Rattle.protocol.proofs.Opening.{open_keeps}
 
 -- ---- number and config
 
 -- a verdict leaves them as they are
 abbrev pub SamePlace : State → Verdict → Type 0
-SamePlace s (refused fault) = Unit {0}
-SamePlace s (accepted s' effect statement answer) = (s'.number ≡ s.number) × (s'.config ≡ s.config)
+SamePlace s verdict = ((state_after s verdict).number ≡ s.number) × ((state_after s verdict).config ≡ s.config)
 
-module _ (s : State) where
-  need_same : (test : Bool) (fault : ReplicaFault) (verdict : Verdict) → SamePlace s verdict → SamePlace s (need test fault verdict)
-  need_same true fault verdict p = p
-  need_same false fault verdict p = tt
+module _ (s : State) (sealed : ℕ → List ℕ → Bool) (fits : ℕ → Bool) (room : ℕ) where
+  kind_same : (g : ℕ) (st : Statement) → SamePlace s (hear_kind sealed fits room s g st)
+  kind_same g st = grind arith
 
-  either_same : (test : Bool) (a b : State) → (a.number ≡ s.number) × (a.config ≡ s.config) → (b.number ≡ s.number) × (b.config ≡ s.config)
-      → ((cond test a b).number ≡ s.number) × ((cond test a b).config ≡ s.config)
-  either_same true a b p q = p
-  either_same false a b p q = q
+  read_same : (bytes : List ℕ) (read : Result Said ReadFault) → SamePlace s (hear_read sealed fits room s bytes read)
+  read_same bytes (Err fault) = (refl, refl)
+  read_same bytes (Ok said) = grind (arith, kind_same said.replica said.statement)
 
-  module _ (sealed : ℕ → List ℕ → Bool) (fits : ℕ → Bool) (room : ℕ) where
-    seals_same : (st : Statement) (to : State) (effect : Effect) (answer : ℕ) → (to.number ≡ s.number) × (to.config ≡ s.config)
-        → SamePlace s (seals sealed fits room st to effect answer)
-    seals_same st to effect answer p = need_same (leb (size st) room) _ _ (need_same (fits (size st)) _ _ p)
-
-    hold_same : (g : ℕ) (es : List LogEntry) (lacking : Option ℕ) → SamePlace s (hold sealed fits room s g es lacking)
-    hold_same g es (Some number) = tt
-    hold_same g es None = (refl, refl)
-
-    kind_same : (g : ℕ) (st : Statement) → SamePlace s (hear_kind sealed fits room s g st)
-    kind_same g (prepare view number r) =
-        need_same (eqb number (s.prepared + 1)) _ _
-        (need_same (leb s.selected s.prepared || same r (selected_at s s.prepared)) _ _
-        (seals_same (commit s.view number r) (with_prepared s r (2 ^ s.number)) rest _ (refl, refl)))
-    kind_same g (commit view number r) =
-        need_same (leb number s.prepared) _ _
-        (need_same (same r (prepared_at s (number - 1))) _ _ (need_same (not (names (commits_at s (number - 1)) g)) _ _ (refl, refl)))
-    kind_same g (doubt view) = need_same (ltb s.view last_view) _ _ (refl, refl)
-    kind_same g (report view es) = need_same (not (holds s g)) _ _ (hold_same g es (uncertified s.config sealed 1 es))
-    kind_same g (closing view mask) = need_same (not (is_some (noted s g))) _ _ (need_same (holds_all s (names mask)) _ _ (refl, refl))
-    kind_same g (reply view number r outcome) = tt
-
-    read_same : (bytes : List ℕ) (read : Result Said ReadFault) → SamePlace s (hear_read sealed fits room s bytes read)
-    read_same bytes (Err fault) = tt
-    read_same bytes (Ok said) =
-        need_same (eqb (view_of said.statement) s.view) _ _
-        (need_same (allows s said.statement) _ _
-        (need_same (entitles s said.replica said.statement) _ _
-        (need_same (sealed said.replica bytes) _ _ (kind_same said.replica said.statement))))
-
-    pub step_same : (outcome : Request → ℕ) (act : Act) → SamePlace s (step sealed fits room outcome s act)
-    step_same outcome (orders r) =
-        need_same (working s.phase && leads s) _ _
-        (need_same (leb s.selected s.prepared) _ _
-        (need_same (ltb s.prepared last_number) _ _ (seals_same (prepare s.view (s.prepared + 1) r) (with_prepared s r 0) rest _ (refl, refl))))
-    step_same outcome repeats =
-        need_same (working s.phase && leads s) _ _
-        (need_same (ltb s.prepared s.selected) _ _
-        (need_same (ltb s.prepared last_number) _ _
-        (seals_same (prepare s.view (s.prepared + 1) (selected_at s s.prepared)) (with_prepared s (selected_at s s.prepared) 0) rest _ (refl, refl))))
-    step_same outcome (hears bytes) = read_same bytes (reading s.config bytes)
-    step_same outcome carries_out =
-        need_same (working s.phase) _ _
-        (need_same (ltb s.executed s.prepared) _ _
-        (need_same (all_heard s s.executed) _ _
-        (seals_same (reply s.view (s.executed + 1) (next_request s) (outcome (next_request s))) (with_executed s) (execute (next_request s)) _ (refl, refl))))
-    step_same outcome doubts =
-        need_same (working s.phase || (gathering s.phase || closed s.phase)) _ _
-        (need_same (ltb s.view last_view) _ _ (seals_same (doubt s.view) (turned s) rest _ (refl, refl)))
-    step_same outcome reports = need_same (turning s.phase) _ _ (seals_same (report s.view (entries s)) (reported s) rest _ (either_same (active s) _ _ (refl, refl) (refl, refl)))
-    step_same outcome closes =
-        need_same (gathering s.phase) _ _
-        (need_same (leb (faults s.config + 1) (count (peers s) (holds s))) _ _
-        (seals_same (closing s.view (held_mask s)) (with_closing s Closed s.number (held_mask s)) rest _ (refl, refl)))
-    step_same outcome opens =
-        need_same (closed s.phase) _ _ (need_same (all_noted s) _ _ (need_same (holds_all s (named s)) _ _ (refl, refl)))
+  pub step_same : (outcome : Request → ℕ) (act : Act) → SamePlace s (step sealed fits room outcome s act)
+  step_same outcome (hears bytes) = read_same bytes (reading s.config bytes)
+  step_same outcome act = grind arith
 
 -- ---- what a call leaves behind
 
 module _ (machine : RequestMachine) (facts facts' : Facts machine) (sealed : ℕ → List ℕ → Bool) (fits : ℕ → Bool) (room : ℕ) (s : State) (state : machine.State)
     (inv : Inv machine facts s state) (s' : State) (effect : Effect) (statement : Option Statement) (answer : ℕ) (adds : Adds facts facts' s.number statement) where
-  carries_leaves : (outcome : Request → ℕ) → carry_out_step sealed fits room outcome s ≡ accepted s' effect statement answer
-      → facts'.Known s.number (reply s.view (s.executed + 1) (next_request s) answer)
-  carries_leaves outcome e =
-      let a = needed (working s.phase) NotAllowed _ e in
-      let b = needed (ltb s.executed s.prepared) OutOfTurn _ a.1 in
-      let c = needed (all_heard s s.executed) TooFew _ b.1 in
-      let says = reply s.view (s.executed + 1) (next_request s) (outcome (next_request s)) in
-      let d = sealing sealed fits room says (with_executed s) (execute (next_request s)) (outcome (next_request s)) c.1 in
-      let is : statement ≡ Some says = cc in
-      let gives : outcome (next_request s) ≡ answer = cc in
-      rw (← gives) (adds.new says is)
-
   closes_leaves : close_step sealed fits room s ≡ accepted s' effect statement answer → Leaves s.config machine facts' s.number s closes answer
   closes_leaves e =
-      let a = needed (gathering s.phase) NotAllowed _ e in
-      let b = needed (leb (faults s.config + 1) (count (peers s) (holds s))) TooFew _ a.1 in
-      let says = closing s.view (held_mask s) in
-      let d = sealing sealed fits room says (with_closing s Closed s.number (held_mask s)) rest (size says) b.1 in
-      let is : statement ≡ Some says = cc in
-      record { mask = held_mask s; closed = adds.new says is; naming = λ x inside t. rw (mask_names_passing (peers s) (holds s) x inside) t }
+      let is : statement ≡ Some (closing s.view (held_mask s)) = grind arith in
+      record { mask = held_mask s; closed = adds.new _ is; naming = λ x inside t. rw (mask_names_passing (peers s) (holds s) x inside) t }
 
   opens_leaves : open_step sealed fits room s ≡ accepted s' effect statement answer → Leaves s.config machine facts' s.number s opens answer
-  opens_leaves e above =
-      let a = needed (closed s.phase) NotAllowed _ e in
-      closed_before_grows s.config adds.grows (inv.closings.closed (rw (is_closed s.phase a.0) tt) above)
+  opens_leaves e above = closed_before_grows s.config adds.grows (inv.closings.closed (grind arith) above)
 
   pub step_leaves : (outcome : Request → ℕ) (act : Act) → step sealed fits room outcome s act ≡ accepted s' effect statement answer
       → Leaves s.config machine facts' s.number s act answer
-  step_leaves outcome carries_out e = carries_leaves outcome e
+  step_leaves outcome carries_out e = grind (arith, adds.new)
   step_leaves outcome closes e = closes_leaves e
   step_leaves outcome opens e = opens_leaves e
   step_leaves outcome act e = tt
@@ -160,35 +78,32 @@ module _ (machine : RequestMachine) (facts facts' : Facts machine) (sealed : ℕ
   -- a message heard, by its kind
   kind_keeps : (g : ℕ) (st : Statement) → view_of st ≡ s.view → T (allows s st) → T (entitles s g st) → Made s.config sealed g st
       → hear_kind sealed fits room s g st ≡ accepted s' effect statement answer → Keeps facts facts' s state s' effect statement
-  kind_keeps g (prepare view number r) same allowed entitled made e =
-      hear_prepare_keeps sealed fits room machine facts facts' s state inv s' effect statement answer knows g view number r same made allowed entitled e
-  kind_keeps g (commit view number r) same allowed entitled made e =
-      hear_commit_keeps sealed fits room machine facts facts' s state inv s' effect statement answer knows g view number r same made allowed entitled e
-  kind_keeps g (doubt view) same allowed entitled made e = hear_doubt_keeps sealed fits room machine facts facts' s state inv s' effect statement answer e
-  kind_keeps g (report view es) same allowed entitled made e =
-      hear_report_keeps sealed fits room machine facts facts' s state inv s' effect statement answer knows g view es same made e
-  kind_keeps g (closing view mask) same allowed entitled made e =
-      hear_closing_keeps sealed fits room machine facts facts' s state inv s' effect statement answer knows g view mask same made e
+  kind_keeps g (prepare view number r) same allowed entitled made e = hear_prepare_keeps sealed fits room inv knows g view number r same made allowed entitled e
+  kind_keeps g (commit view number r) same allowed entitled made e = hear_commit_keeps sealed fits room inv knows g view number r same made allowed entitled e
+  kind_keeps g (doubt view) same allowed entitled made e = hear_doubt_keeps sealed fits room inv e
+  kind_keeps g (report view es) same allowed entitled made e = hear_report_keeps sealed fits room inv knows g view es same made e
+  kind_keeps g (closing view mask) same allowed entitled made e = hear_closing_keeps sealed fits room inv knows g view mask same made e
   kind_keeps g (reply view number r outcome) same allowed entitled made e = absurd allowed
+
+  checked : (a b c d : Bool) (verdict : Verdict)
+      → need a WrongView (need b NotAllowed (need c NotEntitled (need d (Register Unknown) verdict))) ≡ accepted s' effect statement answer
+      → T a × T b × T c × T d × (verdict ≡ accepted s' effect statement answer)
+  checked a b c d verdict e = grind arith
 
   hear_keeps : (bytes : List ℕ) → Bytes bytes → (read : Result Said ReadFault) → reading s.config bytes ≡ read
       → hear_read sealed fits room s bytes read ≡ accepted s' effect statement answer → Keeps facts facts' s state s' effect statement
-  hear_keeps bytes small (Err fault) reads e = absurd (refused_not (Read fault) s' effect statement answer e)
+  hear_keeps bytes small (Err fault) reads e = absurd (grind arith)
   hear_keeps bytes small (Ok said) reads e =
-      let one = needed (eqb (view_of said.statement) s.view) WrongView _ e in
-      let two = needed (allows s said.statement) NotAllowed _ one.1 in
-      let three = needed (entitles s said.replica said.statement) NotEntitled _ two.1 in
-      let four = needed (sealed said.replica bytes) (Register Unknown) _ three.1 in
-      kind_keeps said.replica said.statement (eqb→eq (view_of said.statement) s.view one.0) two.0 three.0
-      (made_heard s.config sealed bytes said small reads four.0) four.1
+      let is = checked _ _ _ _ _ e in
+      kind_keeps said.replica said.statement (eqb→eq _ s.view is.0) is.1 is.2 (made_heard s.config sealed bytes said small reads is.3) is.4
 
   pub step_keeps : (act : Act) → HeardBytes act → Shows facts' s act → step sealed fits room (λ r. (machine.step state r).1) s act ≡ accepted s' effect statement answer
       → Keeps facts facts' s state s' effect statement
-  step_keeps (orders r) heard shows e = order_keeps sealed fits room machine facts facts' s state inv s' effect statement answer r e
-  step_keeps repeats heard shows e = repeat_keeps sealed fits room machine facts facts' s state inv s' effect statement answer e
+  step_keeps (orders r) heard shows e = order_keeps sealed fits room inv r e
+  step_keeps repeats heard shows e = repeat_keeps sealed fits room inv e
   step_keeps (hears bytes) heard shows e = hear_keeps bytes heard (reading s.config bytes) refl e
-  step_keeps carries_out heard shows e = carry_out_keeps sealed fits room machine facts facts' s state inv s' effect statement answer word e
-  step_keeps doubts heard shows e = doubt_keeps sealed fits room machine facts facts' s state inv s' effect statement answer e
-  step_keeps reports heard shows e = report_keeps sealed fits room machine facts facts' s state inv s' effect statement answer e
-  step_keeps closes heard shows e = close_keeps sealed fits room machine facts facts' s state inv s' effect statement answer shows e
-  step_keeps opens heard shows e = open_keeps sealed fits room machine facts facts' s state inv s' effect statement answer shows e
+  step_keeps carries_out heard shows e = carry_out_keeps sealed fits room inv word e
+  step_keeps doubts heard shows e = doubt_keeps sealed fits room inv e
+  step_keeps reports heard shows e = report_keeps sealed fits room inv e
+  step_keeps closes heard shows e = close_keeps sealed fits room inv shows e
+  step_keeps opens heard shows e = open_keeps sealed fits room inv shows e

@@ -10,26 +10,26 @@ use Rattle.protocol.specs.Replay.{RequestMachine}
 use Rattle.protocol.specs.States.{turned}
 use Rattle.protocol.specs.Steps.{Effect, rest, accepted, doubt_step, hear_doubt}
 use Rattle.protocol.proofs.Tests.{as_accepted}
-use Rattle.protocol.proofs.Known.{fits_doubt}
 use Rattle.protocol.proofs.Parts.{Inv}
 use Rattle.protocol.proofs.Grow.{Keeps, inv_adds}
 
-module _ (sealed : ℕ → List ℕ → Bool) (fits : ℕ → Bool) (room : ℕ) (machine : RequestMachine) (facts facts' : Facts machine) (s : State) (state : machine.State)
-    (inv : Inv machine facts s state) (s' : State) (effect : Effect) (statement : Option Statement) (answer : ℕ) where
-  turn_keeps : s.view < last_view → Inv machine facts (turned s) state
-  turn_keeps left = search (arith, inv)
+turn_keeps : {machine : RequestMachine} {facts : Facts machine} {s : State} {state : machine.State} → Inv machine facts s state → s.view < last_view
+    → Inv machine facts (turned s) state
+turn_keeps inv left = search (arith, inv)
 
+module _ (sealed : ℕ → List ℕ → Bool) (fits : ℕ → Bool) (room : ℕ) {machine : RequestMachine} {facts facts' : Facts machine} {s : State} {state : machine.State}
+    (inv : Inv machine facts s state) {s' : State} {effect : Effect} {statement : Option Statement} {answer : ℕ} where
   pub doubt_keeps : doubt_step sealed fits room s ≡ accepted s' effect statement answer → Keeps facts facts' s state s' effect statement
   doubt_keeps e =
       let is : (s.view < last_view) × (accepted (turned s) rest (Some (doubt s.view)) (size (doubt s.view)) ≡ accepted s' effect statement answer) =
       grind (arith, nat_tests) in
       as_accepted (Keeps facts facts' s state) is.1
       (record {
-        in_range = fits_doubt s.config s.number s.view inv.shape.inside inv.shape.low_view;
-        keeps = λ adds. inv_adds adds (λ t. t) (turn_keeps is.0);
+        in_range = grind (arith, nat_tests, inv.shape);
+        keeps = λ adds. inv_adds adds (λ t. t) (turn_keeps inv is.0);
       })
 
   pub hear_doubt_keeps : hear_doubt sealed fits room s ≡ accepted s' effect statement answer → Keeps facts facts' s state s' effect statement
   hear_doubt_keeps e =
       let is : (s.view < last_view) × (accepted (turned s) rest None 0 ≡ accepted s' effect statement answer) = grind (arith, nat_tests) in
-      as_accepted (Keeps facts facts' s state) is.1 (record { in_range = tt; keeps = λ adds. inv_adds adds (λ t. t) (turn_keeps is.0) })
+      as_accepted (Keeps facts facts' s state) is.1 (record { in_range = tt; keeps = λ adds. inv_adds adds (λ t. t) (turn_keeps inv is.0) })

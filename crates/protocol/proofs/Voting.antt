@@ -1,5 +1,5 @@
 -- Voting for a number (ordering, repeating, hearing a PREPARE) and hearing a COMMIT keep what an honest replica keeps.
-use Rattle.std.proofs.Common.{◌≡◌, ℕ, suc, ◌+◌, ◌-◌, ◌^◌, ◌<◌, ◌≤◌, Bool, not, ◌&&◌, ◌||◌, T, eqb, ltb, leb, ◌⊎◌, List, get_or, set, Some, None, Option, sym, refl, ap, ◌∙◌, subst, inl, inr, ⊎_elim, add-one, arith, eqb→eq, ltb→lt, leb→le, length-set, get_or-set_other, get_or-set_same}
+use Rattle.std.proofs.Common.{◌≡◌, ℕ, suc, ◌+◌, ◌-◌, ◌^◌, ◌<◌, ◌≤◌, Bool, T, ◌⊎◌, List, set, Some, None, Option, refl, inl, inr, add-one, arith, eqb→eq, length-set}
 use native.Mathlib.Nat.{zero-div}
 use lib.Bits.{bit_or}
 use Rattle.std.proofs.lemmas.Bool.Decides.{nat_tests}
@@ -9,23 +9,21 @@ use Rattle.wire.specs.Configs.{replicas}
 use Rattle.wire.specs.Counting.{names}
 use Rattle.wire.specs.Kinds.{last_number}
 use Rattle.wire.specs.Statements.{Statement, prepare, commit}
-use Rattle.groups.specs.Groups.{member, primary, follower}
-use Rattle.protocol.specs.declared.fault.ReplicaFault.TheVariants.{NotAllowed, OutOfTurn, OtherRequest, HeardBefore, NoneLeft}
+use Rattle.groups.specs.Groups.{primary}
 use Rattle.protocol.specs.declared.state.State.{State}
 use Rattle.protocol.specs.Certificates.{size}
 use Rattle.protocol.specs.Facts.{Facts}
 use Rattle.protocol.specs.Receipts.{Made}
 use Rattle.protocol.specs.Replay.{RequestMachine}
 use Rattle.protocol.specs.Rules.{Chosen}
-use Rattle.protocol.specs.States.{blank, working, leads, prepared_at, selected_at, commits_at, with_prepared, with_commits}
-use Rattle.protocol.specs.Steps.{Effect, rest, accepted, same, allows, entitles, order_step, repeat_step, hear_prepare, hear_commit}
+use Rattle.protocol.specs.States.{working, leads, prepared_at, selected_at, commits_at, with_prepared, with_commits}
+use Rattle.protocol.specs.Steps.{Effect, rest, accepted, allows, entitles, order_step, repeat_step, hear_prepare, hear_commit}
 use Rattle.protocol.specs.Votes.{vote}
-use Rattle.protocol.proofs.Grow.{Adds, Silent, Keeps, silent, is_report, is_closing, is_reply, chosen_grows, executes_grow, replies_grow, logs_grow, reports_grow, closings_grow, holds_grow, opens_grow, inv_adds}
-use Rattle.protocol.proofs.Known.{vote_primary, vote_follower, of_vote, vote_equal, fits_vote, vote_fits}
+use Rattle.protocol.proofs.Grow.{Adds, Keeps, silent, is_report, is_closing, is_reply, chosen_grows, executes_grow, replies_grow, logs_grow, reports_grow, closings_grow, holds_grow, opens_grow, inv_adds}
+use Rattle.protocol.proofs.Known.{fits_vote}
 use Rattle.protocol.proofs.Masks.{names_more}
 use Rattle.protocol.proofs.Parts.{Shape, Votes, Prepares, Inv}
-use Rattle.protocol.proofs.Quorum.{each_passes}
-use Rattle.protocol.proofs.Tests.{needed, sealing, as_accepted, last_or_below, one_passes, same_equal}
+use Rattle.protocol.proofs.Tests.{as_accepted, same_equal}
 
 -- the empty mask names none, and that of one bit one
 names_nothing : (g : ℕ) → T (names 0 g) → ⊥
@@ -50,7 +48,7 @@ module _ {machine : RequestMachine} {facts facts' : Facts machine} (s : State) (
   Which v n r' = facts.Known s.number (vote s.config v s.number n r') ⊎ ((v ≡ s.view) × (n ≡ suc s.prepared) × (r' ≡ r))
 
   which : (v n : ℕ) (r' : Request) → facts'.Known s.number (vote s.config v s.number n r') → Which v n r'
-  which v n r' k = ⊎_elim inl (λ e. inr (vote_equal s.config v s.view s.number n (suc s.prepared) r' r (cc))) (adds.only _ k)
+  which v n r' k = grind (arith, adds.only _ k)
 
   -- an earlier vote is for another number of the view
   not_both : (n : ℕ) (r' : Request) → n ≡ suc s.prepared → facts.Known s.number (vote s.config s.view s.number n r') → ⊥
@@ -77,17 +75,10 @@ module _ {machine : RequestMachine} {facts facts' : Facts machine} (s : State) (
         heard = λ w k g l inside t. grind (arith, elements, heard g inside, adds.grows.known, inv.prepares.heard w k g, inv.shape.long_requests, inv.shape.long_commits);
       }
 
-  -- a vote is no statement of another kind
-  no_other : (kind : Statement → Bool) → ((v n : ℕ) (r : Request) → T (kind (prepare v n r)) → ⊥) → ((v n : ℕ) (r : Request) → T (kind (commit v n r)) → ⊥)
-      → Silent facts facts' s.number kind
-  no_other kind a b =
-      silent adds kind
-      (of_vote s.config (λ st. T (kind st) → ⊥) s.view s.number (suc s.prepared) r (a s.view (suc s.prepared) r) (b s.view (suc s.prepared) r))
-
   voting : Inv machine facts' (with_prepared s r commits) state
   voting =
-      let no_report = no_other is_report (λ v n r t. t) (λ v n r t. t) in
-      let no_reply = no_other is_reply (λ v n r t. t) (λ v n r t. t) in
+      let no_report = silent adds is_report (λ t. grind arith) in
+      let no_reply = silent adds is_reply (λ t. grind arith) in
       record {
         shape = search (arith, length-set {A = ℕ}, length-set {A = Request}, inv.shape);
         votes = votes;
@@ -96,7 +87,7 @@ module _ {machine : RequestMachine} {facts facts' : Facts machine} (s : State) (
         replies = replies_grow s.config adds.grows no_reply inv.replies;
         logs = logs_grow s.config adds.grows inv.logs;
         reports = reports_grow s.config adds.grows no_reply no_report inv.reports;
-        closings = closings_grow s.config adds.grows (no_other is_closing (λ v n r t. t) (λ v n r t. t)) inv.closings;
+        closings = closings_grow s.config adds.grows (silent adds is_closing (λ t. grind arith)) inv.closings;
         holds = holds_grow s.config adds.grows inv.holds;
         opens = opens_grow s.config adds.grows inv.opens;
       }
@@ -114,18 +105,15 @@ hearing {machine} {facts} s state inv k commits below heard =
 
 -- ---- accepted calls
 
-module _ (sealed : ℕ → List ℕ → Bool) (fits : ℕ → Bool) (room : ℕ) (machine : RequestMachine) (facts facts' : Facts machine) (s : State) (state : machine.State)
+module _ (sealed : ℕ → List ℕ → Bool) (fits : ℕ → Bool) (room : ℕ) {machine : RequestMachine} {facts facts' : Facts machine} {s : State} {state : machine.State}
     (inv : Inv machine facts s state) where
-  abbrev Kept : State → Effect → Option Statement → Type 0
-  Kept s' effect statement = Keeps facts facts' s state s' effect statement
-
   -- a statement that is its vote for the next number
   vote_keeps : (works : T (working s.phase)) (below : s.prepared < last_number) (r : Request) (commits : ℕ)
       → (s.prepared < s.selected → r ≡ selected_at s s.prepared)
       → (st : Statement) → st ≡ vote s.config s.view s.number (suc s.prepared) r
       → (Adds facts facts' s.number (Some st) → facts'.Known (primary s.config s.view) (prepare s.view (suc s.prepared) r))
       → (Adds facts facts' s.number (Some st) → (g : ℕ) → g < replicas s.config → T (names commits g) → facts'.Known g (commit s.view (suc s.prepared) r))
-      → Kept (with_prepared s r commits) rest (Some st)
+      → Keeps facts facts' s state (with_prepared s r commits) rest (Some st)
   vote_keeps works below r commits selected st is led heard =
       record {
         in_range = rw is (fits_vote s.config s.number s.view (suc s.prepared) r inv.shape.inside inv.shape.low_view (omega arith) below);
@@ -134,31 +122,31 @@ module _ (sealed : ℕ → List ℕ → Bool) (fits : ℕ → Bool) (room : ℕ)
 
   -- the primary's vote is its PREPARE
   lead_keeps : T (working s.phase) → T (leads s) → s.prepared < last_number → (r : Request) → (s.prepared < s.selected → r ≡ selected_at s s.prepared)
-      → Kept (with_prepared s r 0) rest (Some (prepare s.view (s.prepared + 1) r))
+      → Keeps facts facts' s state (with_prepared s r 0) rest (Some (prepare s.view (s.prepared + 1) r))
   lead_keeps works leading below r selected =
       vote_keeps works below r 0 selected (prepare s.view (s.prepared + 1) r) (grind arith)
       (λ adds. rw (← eqb→eq s.number (primary s.config s.view) leading, ← add-one s.prepared) (adds.new _ refl))
       (λ adds g inside t. absurd (names_nothing g t))
 
-  module _ (s' : State) (effect : Effect) (statement : Option Statement) (answer : ℕ) where
-    pub order_keeps : (r : Request) → order_step sealed fits room s r ≡ accepted s' effect statement answer → Kept s' effect statement
+  module _ {s' : State} {effect : Effect} {statement : Option Statement} {answer : ℕ} where
+    pub order_keeps : (r : Request) → order_step sealed fits room s r ≡ accepted s' effect statement answer → Keeps facts facts' s state s' effect statement
     order_keeps r e =
         let is : T (working s.phase) × T (leads s) × (s.selected ≤ s.prepared) × (s.prepared < last_number)
         × (accepted (with_prepared s r 0) rest (Some (prepare s.view (s.prepared + 1) r)) (s.prepared + 1) ≡ accepted s' effect statement answer) =
         grind (arith, nat_tests) in
-        as_accepted Kept is.4 (lead_keeps is.0 is.1 is.3 r (λ l. absurd (omega arith)))
+        as_accepted (Keeps facts facts' s state) is.4 (lead_keeps is.0 is.1 is.3 r (λ l. absurd (omega arith)))
 
-    pub repeat_keeps : repeat_step sealed fits room s ≡ accepted s' effect statement answer → Kept s' effect statement
+    pub repeat_keeps : repeat_step sealed fits room s ≡ accepted s' effect statement answer → Keeps facts facts' s state s' effect statement
     repeat_keeps e =
         let r = selected_at s s.prepared in
         let is : T (working s.phase) × T (leads s) × (s.prepared < last_number)
         × (accepted (with_prepared s r 0) rest (Some (prepare s.view (s.prepared + 1) r)) (s.prepared + 1) ≡ accepted s' effect statement answer) =
         grind (arith, nat_tests) in
-        as_accepted Kept is.3 (lead_keeps is.0 is.1 is.2 r (λ l. refl))
+        as_accepted (Keeps facts facts' s state) is.3 (lead_keeps is.0 is.1 is.2 r (λ l. refl))
 
     pub hear_prepare_keeps : (knows : (x : ℕ) (st : Statement) → Made s.config sealed x st → facts.Known x st) (g view number : ℕ) (r : Request) → view ≡ s.view
         → Made s.config sealed g (prepare view number r) → T (allows s (prepare view number r)) → T (entitles s g (prepare view number r))
-        → hear_prepare sealed fits room s number r ≡ accepted s' effect statement answer → Kept s' effect statement
+        → hear_prepare sealed fits room s number r ≡ accepted s' effect statement answer → Keeps facts facts' s state s' effect statement
     hear_prepare_keeps knows g view number r same_view made allowed entitled e =
         let says = commit s.view number r in
         let is : (number ≡ suc s.prepared) × (s.prepared < s.selected → r ≡ selected_at s s.prepared)
@@ -167,14 +155,14 @@ module _ (sealed : ℕ → List ℕ → Bool) (fits : ℕ → Bool) (room : ℕ)
         let numbered = is.0 in
         let in_range : number ≤ last_number = grind (arith, nat_tests, made.0) in
         let from = eqb→eq g (primary s.config s.view) entitled in
-        as_accepted Kept is.2
+        as_accepted (Keeps facts facts' s state) is.2
         (vote_keeps (grind arith) (omega arith) r (2 ^ s.number) is.1 says (grind arith)
         (λ adds. rw (← from, ← same_view, ← numbered) (adds.grows.known g _ (knows g _ made)))
         (λ adds x inside t. rw (← names_one s.number x t, ← numbered) (adds.new _ refl)))
 
     pub hear_commit_keeps : (knows : (x : ℕ) (st : Statement) → Made s.config sealed x st → facts.Known x st) (g view number : ℕ) (r : Request) → view ≡ s.view
         → Made s.config sealed g (commit view number r) → T (allows s (commit view number r)) → T (entitles s g (commit view number r))
-        → hear_commit sealed fits room s g number r ≡ accepted s' effect statement answer → Kept s' effect statement
+        → hear_commit sealed fits room s g number r ≡ accepted s' effect statement answer → Keeps facts facts' s state s' effect statement
     hear_commit_keeps knows g view number r same_view made allowed entitled e =
         let commits = bit_or (commits_at s (number - 1)) (2 ^ g) in
         let is : (number ≤ s.prepared) × (r ≡ prepared_at s (number - 1))
@@ -182,7 +170,7 @@ module _ (sealed : ℕ → List ℕ → Bool) (fits : ℕ → Bool) (room : ℕ)
         grind (arith, nat_tests, same_equal r (prepared_at s (number - 1))) in
         let numbered : number ≡ suc (number - 1) = grind (arith, nat_tests, made.0) in
         let told = knows g _ made in
-        as_accepted Kept is.2
+        as_accepted (Keeps facts facts' s state) is.2
         (record {
           in_range = tt;
           keeps = λ adds.

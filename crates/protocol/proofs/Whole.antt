@@ -40,8 +40,7 @@ keeps_rules machine facts s state inv past logged works =
           rw (logged, p.numbered) (has_entry s.log s.logged p.before view below within no_later);
       log_certified = λ number e at.
           let (k, is, below, here) = entry_placed s.log s.logged number e within (rw logged at at) in
-          subst (λ (n : ℕ). Certified s.config machine facts e.view n e.request) (sym is)
-          (subst (λ (d : LogEntry). Certified s.config machine facts d.view (suc k) d.request) here (inv.logs.certified k below));
+          rw is (rw here at (inv.logs.certified k below));
       reports = inv.reports.kept;
       one_closing = inv.closings.one_closing;
       closes = past.closes;

@@ -12,7 +12,7 @@ use Rattle.protocol.specs.declared.fault.ReplicaFault.TheVariants.{Read, Registe
 use Rattle.protocol.specs.declared.state.State.{State}
 use Rattle.protocol.specs.Replay.{RequestMachine}
 use Rattle.protocol.specs.States.{new_state}
-use Rattle.protocol.specs.Steps.{Act, orders, repeats, hears, carries_out, doubts, reports, closes, opens, Verdict, step}
+use Rattle.protocol.specs.Steps.{Act, hears, Verdict, step}
 use Rattle.protocol.specs.Verdicts.{answer_of, state_after, machine_after, added, adds, sealed_after, new_pair, out_after}
 
 -- a replica: its state, and that of its machine
