@@ -11,6 +11,6 @@ returns c =
     let view = be 4 c.args.view in
     put_after 0 (who ++ view) (c.args.rows ∷ []) c.args.out.now _ _ (omega arith)
     (put_after 0 who view c.args.out.now _ _ (omega arith)
-    (c.put.ensures ∙ ap (λ (k : ℕ). over 0 (k ∷ c.args.replica ∷ []) c.args.out.now) c.number.ensures)
+    (c.put.ensures ∙ ap (λ (k : ℕ). over 0 (k ∷ c.args.replica ∷ []) c.args.out.now) c.from.ensures)
     (put_number 4 c.args.view 2 _ c.put.new.out c.put-2.new.out c.to_be_bytes.ensures c.put-2.ensures))
     c.put-3.ensures
