@@ -7,10 +7,10 @@ ghost use Rattle.wire.specs.Reading.{request_read, replied, closed, reported, bo
 
 use crate::config::ClusterConfig;
 use crate::fault::ReadFault;
-use crate::kind::{Kind, LAST_VIEW};
-use crate::mask::may_close;
+use crate::kind::Kind;
 use crate::message::{Closing, Doubt, Message, Reply, Report, Vote};
 use crate::numbers::bytes_at;
+use crate::ranges::{check_head, check_mask};
 use crate::reader::{check_entries, check_rows, read_request};
 
 // The kind allows so many rows, and the parts are as long as kind and rows make them.
@@ -66,9 +66,7 @@ impl<'a> Parts<'a> {
         ensures holds { Holds self.entry.contents.now self.entry.bodies.now result }
     {
         let mask = u16::from_be_bytes(bytes_at(self.bodies, 0));
-        if !may_close(config, mask) {
-            return Err(ReadFault::Field(13));
-        }
+        check_mask(config, mask)?;
         Ok(Message::Closing(Closing {
             replica: self.replica,
             view: self.view,
@@ -115,12 +113,7 @@ impl<'a> Parts<'a> {
         ensures says { said result ≡ fields_read config self.entry.kind self.entry.replica self.entry.view self.entry.rows self.entry.contents.now self.entry.bodies.now }
         ensures holds { Holds self.entry.contents.now self.entry.bodies.now result }
     {
-        if self.replica >= config.n() {
-            return Err(ReadFault::Field(1));
-        }
-        if self.view > LAST_VIEW {
-            return Err(ReadFault::Field(2));
-        }
+        check_head(config, self.replica, self.view)?;
         check_rows(self.kind, self.contents)?;
         self.read_bodies(config)
     }

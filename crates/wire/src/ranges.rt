@@ -1,4 +1,4 @@
-// The ranges of the fields that a draft fills in.
+// The ranges of a message's fields.
 ghost use Rattle.std.specs.Prelude.{◌≡◌, ◌*◌, ◌+◌, ◌≤◌, length, ◌<◌, None, IfSome, nat_le, nat_lt};
 ghost use Rattle.std.specs.List.{position_from};
 ghost use Rattle.wire.specs.Configs.{replicas};
