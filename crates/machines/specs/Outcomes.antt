@@ -16,9 +16,9 @@ abbrev pub refused : Reason → ℕ
 refused reason = 2 ^ 40 + number reason
 
 -- the outcome that tells what came of a work
-abbrev pub told : Result ℕ Reason → ℕ
-told (Ok outcome) = outcome
-told (Err reason) = refused reason
+abbrev pub outcome_of : Result ℕ Reason → ℕ
+outcome_of (Ok outcome) = outcome
+outcome_of (Err reason) = refused reason
 
 -- a refused work leaves the state
 abbrev pub refuses : {State : Type 0} → State → Reason → State × ℕ

@@ -7,14 +7,14 @@ use crate::reason::Reason;
 // how many pieces there are, numbered from 0
 pub const PIECES: usize = 32;
 
-// Constants, since an enum of them would only be turned from and to bytes again.
+// The operations are constants of the byte format, since an enum of them would only be turned into bytes and back.
 const BUY: u8 = 1;
 
 const PRINT: u8 = 2;
 
 const ASK: u8 = 3;
 
-// A piece may be any byte: works of pieces that there are not are written too, and refused.
+// A piece may be any byte, since works of pieces that there are not are written too, and refused when read.
 #[derive(Clone, Copy, PartialEq, Eq, Debug)]
 pub enum LedgerWork {
     Buy { piece: u8, copies: u32 },

@@ -3,7 +3,7 @@ ghost use Rattle.machines.specs.Queues.{ReadsQueueWork, WritesQueueWork};
 
 use crate::reason::Reason;
 
-// Constants, since an enum of them would only be turned from and to bytes again.
+// The operations are constants of the byte format, since an enum of them would only be turned into bytes and back.
 const PUT: u8 = 4;
 
 const TAKE: u8 = 5;
