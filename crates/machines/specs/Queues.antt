@@ -1,7 +1,6 @@
 -- The press queue: its works, and the step that each is.
-use Rattle.std.specs.Prelude.{◌≡◌, Result, ℕ, ◌+◌, if◌then◌else◌, ◌&&◌, List, [], ◌∷◌, ◌++◌, length, Some, None, Option, ◌==◌, nat_lt, ok_or}
-use Rattle.machines.specs.declared.reason.Reason.{Reason}
-use Rattle.machines.specs.declared.reason.Reason.TheVariants.{NoSuchWork, QueueFull, QueueEmpty}
+use Rattle.std.specs.Prelude.{◌≡◌, ℕ, ◌+◌, if◌then◌else◌, ◌&&◌, List, [], ◌∷◌, ◌++◌, length, Some, None, Option, ◌==◌, nat_lt}
+use Rattle.machines.specs.declared.reason.Reason.TheVariants.{QueueFull, QueueEmpty}
 use Rattle.machines.specs.declared.queue_work.QueueWork.{QueueWork}
 use Rattle.machines.specs.declared.queue_work.QueueWork.TheVariants.{Put, Take}
 use Rattle.machines.specs.Machines.{StateMachine}
@@ -30,10 +29,6 @@ queue_read work =
     if field 0 1 work == putting && field 1 3 work == 0 then Some (Put (field 4 4 work))
     else if field 0 1 work == taking && field 1 7 work == 0 then Some Take
     else None
-
--- a work is read as its bytes say
-pub record ReadsQueueWork (work : ℕ) (r : Result QueueWork Reason) : Type 0 where
-  pub reads_the_bytes : r ≡ ok_or (queue_read work) NoSuchWork
 
 -- a work is written as its bytes, and reads back
 pub record WritesQueueWork (work : QueueWork) (n : ℕ) : Type 0 where

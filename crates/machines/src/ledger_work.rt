@@ -7,7 +7,7 @@ use crate::reason::Reason;
 // how many pieces there are, numbered from 0
 pub const PIECES: usize = 32;
 
-// The operations are constants of the byte format, since an enum of them would only be turned into bytes and back.
+// The first bytes: constants, since the operations are the cases of `LedgerWork`, and each byte is read and written at one place.
 const BUY: u8 = 1;
 
 const PRINT: u8 = 2;

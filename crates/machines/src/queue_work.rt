@@ -1,9 +1,11 @@
 // The works of the press queue. Their bytes are operation (1), zero (3), job (4).
-ghost use Rattle.machines.specs.Queues.{ReadsQueueWork, WritesQueueWork};
+ghost use Rattle.std.specs.Prelude.{◌≡◌, ok_or};
+ghost use Rattle.machines.specs.declared.reason.Reason.TheVariants.{NoSuchWork};
+ghost use Rattle.machines.specs.Queues.{WritesQueueWork, queue_read};
 
 use crate::reason::Reason;
 
-// The operations are constants of the byte format, since an enum of them would only be turned into bytes and back.
+// The first bytes: constants, since the operations are the cases of `QueueWork`, and each byte is read and written at one place.
 const PUT: u8 = 4;
 
 const TAKE: u8 = 5;
@@ -18,7 +20,7 @@ pub enum QueueWork {
 impl TryFrom<u64> for QueueWork {
     type Error = Reason;
 
-    ghost try_from_gives = { ReadsQueueWork };
+    ghost try_from_gives = { λ work r. r ≡ ok_or (queue_read work) NoSuchWork };
 
     fn try_from(work: u64) -> Result<QueueWork, Reason> {
         match work.to_be_bytes() {
