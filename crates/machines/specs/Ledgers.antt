@@ -1,6 +1,7 @@
 -- The ledger: its works, and the step that each is.
-use Rattle.std.specs.Prelude.{ℕ, ◌+◌, ◌-◌, ◌<◌, cond, ◌&&◌, List, replicate, Some, None, Option, ◌==◌, nat_lt, slice_index, slice_set}
-use Rattle.machines.specs.declared.reason.Reason.TheVariants.{TooManyCopies, TooFewCopies}
+use Rattle.std.specs.Prelude.{◌≡◌, Result, ℕ, ◌+◌, ◌-◌, ◌<◌, if◌then◌else◌, ◌&&◌, List, replicate, Some, None, Option, ◌==◌, nat_lt, ok_or, IfOk, slice_index, slice_set}
+use Rattle.machines.specs.declared.reason.Reason.{Reason}
+use Rattle.machines.specs.declared.reason.Reason.TheVariants.{NoSuchWork, TooManyCopies, TooFewCopies}
 use Rattle.machines.specs.declared.ledger_work.LedgerWork.{LedgerWork}
 use Rattle.machines.specs.declared.ledger_work.LedgerWork.TheVariants.{Buy, Print, Ask}
 use Rattle.machines.specs.Machines.{StateMachine}
@@ -38,17 +39,17 @@ ledger_written (Ask piece) = ledger_bytes asking piece 0
 -- the work of an operation; asking names no copies
 abbrev pub operation_on : (operation piece copies : ℕ) → Option LedgerWork
 operation_on operation piece copies =
-    cond (operation == buying) (Some (Buy piece copies))
-    (cond (operation == printing) (Some (Print piece copies))
-    (cond (operation == asking && copies == 0) (Some (Ask piece))
-    None))
+    if operation == buying then Some (Buy piece copies)
+    else if operation == printing then Some (Print piece copies)
+    else if operation == asking && copies == 0 then Some (Ask piece)
+    else None
 
 -- the work that a number is, if it is one
 abbrev pub ledger_read : ℕ → Option LedgerWork
 ledger_read work =
-    cond (nat_lt (field 1 1 work) pieces && field 2 2 work == 0)
-    (operation_on (field 0 1 work) (field 1 1 work) (field 4 4 work))
-    None
+    if nat_lt (field 1 1 work) pieces && field 2 2 work == 0
+    then operation_on (field 0 1 work) (field 1 1 work) (field 4 4 work)
+    else None
 
 -- the piece of a work
 abbrev pub piece_of : LedgerWork → ℕ
@@ -56,25 +57,34 @@ piece_of (Buy piece copies) = piece
 piece_of (Print piece copies) = piece
 piece_of (Ask piece) = piece
 
--- a work that is read names a piece that there is
-abbrev pub NamesAPiece : Option LedgerWork → Type 0
-NamesAPiece None = Unit {0}
-NamesAPiece (Some work) = piece_of work < pieces
+-- a work of a piece that there is
+abbrev pub IsOfAPiece : LedgerWork → Type 0
+IsOfAPiece work = piece_of work < pieces
 
 -- a piece comes to have so many copies left, which is the outcome
 abbrev pub leaves : List ℕ → (piece copies : ℕ) → List ℕ × ℕ
 leaves left piece copies = (slice_set left piece copies, copies)
 
+-- a work is read as its bytes say, and names a piece that there is
+pub record ReadsLedgerWork (work : ℕ) (r : Result LedgerWork Reason) : Type 0 where
+  pub reads_the_bytes : r ≡ ok_or (ledger_read work) NoSuchWork
+  pub names_a_piece : IfOk r IsOfAPiece
+
+-- a work is written as its bytes, and reads back if it names a piece that there is
+pub record WritesLedgerWork (work : LedgerWork) (n : ℕ) : Type 0 where
+  pub writes : n ≡ ledger_written work
+  pub reads_back : IsOfAPiece work → ledger_read n ≡ Some work
+
 -- what a work does to the copies left of each piece
 abbrev pub ledger_does : List ℕ → LedgerWork → List ℕ × ℕ
 ledger_does left (Buy piece copies) =
-    cond (nat_lt most_copies (slice_index left piece + copies))
-    (refuses left TooManyCopies)
-    (leaves left piece (slice_index left piece + copies))
+    if nat_lt most_copies (slice_index left piece + copies)
+    then refuses left TooManyCopies
+    else leaves left piece (slice_index left piece + copies)
 ledger_does left (Print piece copies) =
-    cond (nat_lt (slice_index left piece) copies)
-    (refuses left TooFewCopies)
-    (leaves left piece (slice_index left piece - copies))
+    if nat_lt (slice_index left piece) copies
+    then refuses left TooFewCopies
+    else leaves left piece (slice_index left piece - copies)
 ledger_does left (Ask piece) = (left, slice_index left piece)
 
 -- the ledger: copies left of each piece, none when fresh

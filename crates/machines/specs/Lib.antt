@@ -3,5 +3,4 @@ pub mod Outcomes
 pub mod Works
 pub mod Ledgers
 pub mod Queues
-pub mod Waiting
 pub mod Example

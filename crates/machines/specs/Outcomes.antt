@@ -1,5 +1,5 @@
 -- The outcomes of refused works.
-use Rattle.std.specs.Prelude.{ℕ, ◌+◌, ◌^◌, Some, None, Option}
+use Rattle.std.specs.Prelude.{ℕ, ◌+◌, ◌^◌, Some, None, Option, Ok, Err, Result}
 use Rattle.machines.specs.declared.reason.Reason.{Reason}
 use Rattle.machines.specs.declared.reason.Reason.TheVariants.{NoSuchWork, TooManyCopies, TooFewCopies, QueueFull, QueueEmpty}
 
@@ -14,6 +14,11 @@ number QueueEmpty = 5
 -- the outcome that tells a refusal and its reason
 abbrev pub refused : Reason → ℕ
 refused reason = 2 ^ 40 + number reason
+
+-- the outcome that tells what came of a work
+abbrev pub outcome_of : Result ℕ Reason → ℕ
+outcome_of (Ok outcome) = outcome
+outcome_of (Err reason) = refused reason
 
 -- a refused work leaves the state
 abbrev pub refuses : {State : Type 0} → State → Reason → State × ℕ

@@ -1,11 +1,13 @@
 // The ledger: how many copies of each piece are left.
-ghost use Rattle.std.specs.Prelude.{◌≡◌, ◌<◌};
+ghost use Rattle.std.specs.Prelude.{◌≡◌, ◌<◌, ℕ, List};
 ghost use Rattle.machines.specs.declared.ledger_work.LedgerWork.TheVariants.{Buy, Print};
 ghost use Rattle.machines.specs.Ledgers.{ledger, ledger_does, pieces};
+ghost use Rattle.machines.specs.Outcomes.{outcome_of, if_known};
 
 use crate::ledger_work::{LedgerWork, PIECES};
 use crate::machine::Machine;
 use crate::reason::Reason;
+use std::marker::Model;
 
 // how many copies of a piece may be left at most
 pub const MOST_COPIES: u64 = 1_000_000;
@@ -15,55 +17,65 @@ pub struct Ledger {
     left: [u32; PIECES],
 }
 
+// A contract sees how many copies of each piece are left.
+impl Model for Ledger {
+    ghost Value = { List ℕ };
+
+    ghost view = { λ l. l.left };
+}
+
 impl Ledger {
     pub fn new() -> Ledger
-        ensures { result.left ≡ ledger.fresh }
+        ensures { result ≡ ledger.fresh }
     {
         Ledger { left: [0; PIECES] }
     }
 
-    fn buy(&mut self, piece: u8, copies: u32) -> u64
+    fn buy(&mut self, piece: u8, copies: u32) -> Result<u64, Reason>
         requires { piece < pieces }
-        ensures state { self.new.left ≡ (ledger_does self.old.left (Buy piece copies)).0 }
-        ensures outcome { result ≡ (ledger_does self.old.left (Buy piece copies)).1 }
+        ensures state { self.new ≡ (ledger_does self.old (Buy piece copies)).0 }
+        ensures outcome { outcome_of result ≡ (ledger_does self.old (Buy piece copies)).1 }
     {
-        let left = self.left[piece as usize];
-        if left as u64 + copies as u64 > MOST_COPIES {
-            return Reason::TooManyCopies.outcome();
+        let left = &mut self.left[usize::from(piece)];
+        if u64::from(*left) + u64::from(copies) > MOST_COPIES {
+            return Err(Reason::TooManyCopies);
         }
-        self.left[piece as usize] = left + copies;
-        (left + copies) as u64
+        *left += copies;
+        Ok(u64::from(*left))
     }
 
-    fn print(&mut self, piece: u8, copies: u32) -> u64
+    fn print(&mut self, piece: u8, copies: u32) -> Result<u64, Reason>
         requires { piece < pieces }
-        ensures state { self.new.left ≡ (ledger_does self.old.left (Print piece copies)).0 }
-        ensures outcome { result ≡ (ledger_does self.old.left (Print piece copies)).1 }
+        ensures state { self.new ≡ (ledger_does self.old (Print piece copies)).0 }
+        ensures outcome { outcome_of result ≡ (ledger_does self.old (Print piece copies)).1 }
     {
-        let left = self.left[piece as usize];
-        if left < copies {
-            return Reason::TooFewCopies.outcome();
+        let left = &mut self.left[usize::from(piece)];
+        *left = left.checked_sub(copies).ok_or(Reason::TooFewCopies)?;
+        Ok(u64::from(*left))
+    }
+
+    fn perform(&mut self, work: u64) -> Result<u64, Reason>
+        ensures state { self.new ≡ (ledger.step self.old work).0 }
+        ensures outcome { outcome_of result ≡ (ledger.step self.old work).1 }
+    {
+        match LedgerWork::try_from(work)? {
+            LedgerWork::Buy { piece, copies } => self.buy(piece, copies),
+            LedgerWork::Print { piece, copies } => self.print(piece, copies),
+            LedgerWork::Ask { piece } => Ok(u64::from(self.left[usize::from(piece)])),
         }
-        self.left[piece as usize] = left - copies;
-        (left - copies) as u64
     }
 }
 
 impl Machine for Ledger {
     ghost meaning = { ledger };
 
-    ghost state = { λ l. l.left };
+    ghost state = { λ left. left };
 
     fn reset(&mut self) {
         self.left = [0; PIECES];
     }
 
     fn apply(&mut self, work: u64) -> u64 {
-        match LedgerWork::read(work) {
-            Some(LedgerWork::Buy { piece, copies }) => self.buy(piece, copies),
-            Some(LedgerWork::Print { piece, copies }) => self.print(piece, copies),
-            Some(LedgerWork::Ask { piece }) => self.left[piece as usize] as u64,
-            None => Reason::NoSuchWork.outcome(),
-        }
+        self.perform(work).unwrap_or_else(Reason::outcome)
     }
 }

@@ -7,7 +7,6 @@ pub mod ledger;
 pub mod ledger_work;
 pub mod machine;
 pub mod press_queue;
-pub mod queue_machine;
 pub mod queue_work;
 pub mod reason;
 #[cfg(test)]

@@ -1,8 +1,11 @@
 // The works of the press queue. Their bytes are operation (1), zero (3), job (4).
-ghost use Rattle.std.specs.Prelude.{◌≡◌, Some};
-ghost use Rattle.machines.specs.declared.queue_work.QueueWork.TheVariants.{Put, Take};
-ghost use Rattle.machines.specs.Queues.{queue_read, queue_written};
+ghost use Rattle.std.specs.Prelude.{◌≡◌, ok_or};
+ghost use Rattle.machines.specs.declared.reason.Reason.TheVariants.{NoSuchWork};
+ghost use Rattle.machines.specs.Queues.{WritesQueueWork, queue_read};
 
+use crate::reason::Reason;
+
+// The first bytes: constants, since the operations are the cases of `QueueWork`, and each byte is read and written at one place.
 const PUT: u8 = 4;
 
 const TAKE: u8 = 5;
@@ -13,34 +16,33 @@ pub enum QueueWork {
     Take,
 }
 
-impl QueueWork {
-    // the work that these eight bytes are, if they are one of the press queue's
-    pub fn read(work: u64) -> Option<QueueWork>
-        ensures { result ≡ queue_read work }
-    {
+// the work that these eight bytes are, if they are one of the press queue's
+impl TryFrom<u64> for QueueWork {
+    type Error = Reason;
+
+    ghost try_from_gives = { λ work r. r ≡ ok_or (queue_read work) NoSuchWork };
+
+    fn try_from(work: u64) -> Result<QueueWork, Reason> {
         match work.to_be_bytes() {
-            [PUT, 0, 0, 0, j0, j1, j2, j3] => Some(QueueWork::Put {
+            [PUT, 0, 0, 0, j0, j1, j2, j3] => Ok(QueueWork::Put {
                 job: u32::from_be_bytes([j0, j1, j2, j3]),
             }),
-            [TAKE, 0, 0, 0, 0, 0, 0, 0] => Some(QueueWork::Take),
-            _ => None,
+            [TAKE, 0, 0, 0, 0, 0, 0, 0] => Ok(QueueWork::Take),
+            _ => Err(Reason::NoSuchWork),
         }
     }
 }
 
-// the work that puts a job at the end of the queue
-pub fn put(job: u32) -> u64
-    ensures writes { result ≡ queue_written (Put job) }
-    ensures reads_back { queue_read result ≡ Some (Put job) }
-{
-    let [j0, j1, j2, j3] = job.to_be_bytes();
-    u64::from_be_bytes([PUT, 0, 0, 0, j0, j1, j2, j3])
-}
+impl From<QueueWork> for u64 {
+    ghost from_gives = { WritesQueueWork };
 
-// the work that takes the oldest job
-pub fn take() -> u64
-    ensures writes { result ≡ queue_written Take }
-    ensures reads_back { queue_read result ≡ Some Take }
-{
-    u64::from_be_bytes([TAKE, 0, 0, 0, 0, 0, 0, 0])
+    fn from(work: QueueWork) -> u64 {
+        match work {
+            QueueWork::Put { job } => {
+                let [j0, j1, j2, j3] = job.to_be_bytes();
+                u64::from_be_bytes([PUT, 0, 0, 0, j0, j1, j2, j3])
+            }
+            QueueWork::Take => u64::from_be_bytes([TAKE, 0, 0, 0, 0, 0, 0, 0]),
+        }
+    }
 }

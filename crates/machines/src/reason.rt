@@ -15,6 +15,7 @@ pub enum Reason {
 }
 
 impl Reason {
+    // A method and no `From`, since `u64::from(reason)` would read as the reason's number.
     pub fn outcome(self) -> u64
         ensures { result ≡ refused self }
     {

@@ -1,9 +1,29 @@
 // The two machines at work.
 use crate::ledger::Ledger;
-use crate::ledger_work::{ask, buy, print};
+use crate::ledger_work::LedgerWork;
 use crate::machine::Machine;
 use crate::press_queue::PressQueue;
-use crate::queue_work::{put, take};
+use crate::queue_work::QueueWork;
+
+fn buy(piece: u8, copies: u32) -> u64 {
+    LedgerWork::Buy { piece, copies }.into()
+}
+
+fn print(piece: u8, copies: u32) -> u64 {
+    LedgerWork::Print { piece, copies }.into()
+}
+
+fn ask(piece: u8) -> u64 {
+    LedgerWork::Ask { piece }.into()
+}
+
+fn put(job: u32) -> u64 {
+    QueueWork::Put { job }.into()
+}
+
+fn take() -> u64 {
+    QueueWork::Take.into()
+}
 
 #[test]
 fn ledger_counts_copies(rt: HostRuntime) {
