@@ -1,20 +1,18 @@
 -- What an honest replica keeps stays when more is known, if it made no new statement but a doubt, which no part is about.
-use Rattle.std.proofs.Common.{◌≡◌, ℕ, Bool, true, false, ◌||◌, T, ◌⊎◌, List, Some, None, Option, arith, inl}
+use Rattle.std.proofs.Common.{◌≡◌, ℕ, Bool, ◌⊎◌, List, Some, None, Option, arith, inl}
 use Rattle.std.proofs.lemmas.Option.{none-some}
 use Rattle.wire.specs.declared.config.ClusterConfig.{ClusterConfig}
 use Rattle.wire.specs.declared.entry.LogEntry.{LogEntry}
 use Rattle.wire.specs.declared.request.Request.{Request}
 use Rattle.wire.specs.Laws.{Fits}
-use Rattle.wire.specs.Statements.{Statement, doubt, prepare, commit, report, closing, reply}
-use Rattle.protocol.specs.declared.state.Phase.{Phase}
+use Rattle.wire.specs.Statements.{Statement, doubt, report, reply}
 use Rattle.protocol.specs.declared.state.State.{State}
 use Rattle.protocol.specs.Facts.{Facts}
 use Rattle.protocol.specs.Replay.{RequestMachine}
 use Rattle.protocol.specs.Rules.{Certified, Backed, Executed, nothing, one_more, Replied, Heeded, Chosen, ClosedBefore}
 use Rattle.protocol.specs.Steps.{Effect}
 use Rattle.protocol.specs.Verdicts.{used}
-use Rattle.protocol.specs.Votes.{vote}
-use Rattle.protocol.proofs.Parts.{Votes, Prepares, Executes, Replies, Logs, Reports, Closings, Holds, Opens, Inv}
+use Rattle.protocol.proofs.Parts.{Reports, Inv}
 
 -- a statement, if there is one, is a doubt
 abbrev pub Doubting : Option Statement → Type 0
