@@ -15,26 +15,23 @@ use Rattle.protocol.specs.Steps.{Effect, rest, accepted, close_step, hear_closin
 use Rattle.protocol.proofs.Tests.{as_accepted}
 use Rattle.protocol.proofs.Masks.{mask_small, mask_count}
 use Rattle.protocol.proofs.Parts.{Shape, Holds, Inv}
-use Rattle.protocol.proofs.Grow.{Adds, Keeps, silent, is_vote, is_reply, is_report, votes_grow, replies_grow, logs_grow, reports_grow, holds_grow, inv_adds}
+use Rattle.protocol.proofs.Grow.{Adds, Keeps, reports_grow, inv_adds, chosen_grows, replied_grows, certified_grows}
 use Rattle.std.proofs.lemmas.Bool.Decides.{nat_tests}
 use Rattle.std.proofs.lemmas.Grind.{elements}
 
 closing_keeps : {machine : RequestMachine} {facts facts' : Facts machine} {s : State} {state : machine.State} → Inv machine facts s state → T (gathering s.phase) → faults s.config + 1 ≤ count (peers s) (holds s) → Adds facts facts' s.number (Some (closing s.view (held_mask s)))
     → facts'.Closed s.number s.view (holds s) → Inv machine facts' (with_closing s Closed s.number (held_mask s)) state
 closing_keeps {s = s} inv gathers enough adds here =
-    let no_vote = silent adds is_vote (λ t. t) in
-    let no_reply = silent adds is_reply (λ t. t) in
-    let votes = votes_grow s.config adds.grows no_vote inv.votes in
     record {
       shape = search (arith, length-set {A = Option ℕ}, inv.shape);
-      votes = search (arith, votes);
+      votes = search (arith, adds.only, inv.votes, chosen_grows s.config adds.grows);
       prepares = search arith;
       executes = search arith;
-      replies = replies_grow s.config adds.grows no_reply inv.replies;
-      logs = search (arith, logs_grow s.config adds.grows inv.logs);
-      reports = reports_grow s.config adds.grows no_reply (silent adds is_report (λ t. t)) inv.reports;
+      replies = search (arith, adds.only, inv.replies, replied_grows s.config adds.grows);
+      logs = search (arith, inv.logs, certified_grows s.config adds.grows);
+      reports = reports_grow s.config adds.grows adds.only (λ w es e. cc) (λ v n r outcome e. cc) inv.reports;
       closings = grind (arith, inv.closings, adds.only, adds.new);
-      holds = grind (arith, elements, holds_grow s.config adds.grows inv.holds, adds.new);
+      holds = grind (arith, elements, inv.holds, adds, certified_grows s.config adds.grows);
       opens = search arith;
     }
 
@@ -64,4 +61,4 @@ module _ (sealed : ℕ → List ℕ → Bool) (fits : ℕ → Bool) (room : ℕ)
   hear_closing_keeps knows g view mask same made e =
       let is : accepted (with_closing s s.phase g mask) rest None 0 ≡ accepted s' effect statement answer = grind arith in
       as_accepted (Keeps facts facts' s state) is
-      (record { in_range = tt; keeps = λ adds. inv_adds adds (λ t. t) (note_keeps inv g mask (grind (arith, nat_tests, made.0)) (rw same at (knows g _ made))) })
+      (record { in_range = tt; keeps = λ adds. inv_adds adds (λ st e. cc) (note_keeps inv g mask (grind (arith, nat_tests, made.0)) (rw same at (knows g _ made))) })

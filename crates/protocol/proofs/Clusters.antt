@@ -44,7 +44,7 @@ module _ (config : ClusterConfig) (machine : RequestMachine) (byzantine : ℕ �
         keeps = λ h node e honest.
             let silent = subst (λ (g : ℕ). (st : Statement) → Made config d.sealed g st → Made config c.sealed g st)
             (sym (kept.placed h node (there h ∙ e)).0) (quiet h honest) in
-            inv_grows grows (λ st t. silent st) (kept.keeps h node (there h ∙ e) honest);
+            inv_grows grows {s = node.state} silent (kept.keeps h node (there h ∙ e) honest);
         past = λ h honest.
             past_more config machine byzantine ds c deed d grows h (kept.past h honest) (λ act s answer is. absurd (no_call h act s answer is));
       }
@@ -132,7 +132,7 @@ module _ (config : ClusterConfig) (machine : RequestMachine) (byzantine : ℕ �
       × ((a : ℕ) → answer ≡ Ok a → Leaves config machine now at node.state act a)
   caller_keeps honest (refused fault) is =
       let no : answer ≡ Err fault = answers ∙ ap answer_of is in
-      (inv_adds (rw is at (adding (rw is tt))) (λ t. t) (kept.keeps at node found honest), λ a ok. cc)
+      (inv_adds (rw is at (adding (rw is tt))) (λ st e. cc) (kept.keeps at node found honest), λ a ok. cc)
   caller_keeps honest (accepted s' effect statement b) is =
       let ok : answer ≡ Ok b = answers ∙ ap answer_of is in
       let keeps = accepted_keeps honest s' effect statement b is in
@@ -160,7 +160,7 @@ module _ (config : ClusterConfig) (machine : RequestMachine) (byzantine : ℕ �
             (λ (apart : h ≡ at → ⊥).
             let old = elsewhere h apart ∙ e in
             let silent = quiet node'.state.number (λ equal. apart (sym (kept.placed h node' old).0 ∙ equal ∙ named.0)) in
-            inv_grows grows (λ st t. silent st) (kept.keeps h node' old honest))
+            inv_grows grows {s = node'.state} silent (kept.keeps h node' old honest))
             (cases_eq h at);
         past = λ h honest.
             past_more config machine byzantine ds c deed d grows h (kept.past h honest)

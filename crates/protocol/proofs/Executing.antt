@@ -5,7 +5,7 @@ use Rattle.std.proofs.lemmas.Grind.{elements}
 use Rattle.wire.specs.declared.entry.LogEntry.{LogEntry}
 use Rattle.wire.specs.declared.request.Request.{Request}
 use Rattle.wire.specs.Counting.{names}
-use Rattle.wire.specs.Statements.{Statement, reply}
+use Rattle.wire.specs.Statements.{Statement, report, reply}
 use Rattle.groups.specs.Groups.{group, primary}
 use Rattle.protocol.specs.declared.state.State.{State}
 use Rattle.protocol.specs.Facts.{Facts}
@@ -13,7 +13,8 @@ use Rattle.protocol.specs.Replay.{RequestMachine}
 use Rattle.protocol.specs.Rules.{Certified, one_more, Replied}
 use Rattle.protocol.specs.States.{working, commits_at, next_request, with_executed}
 use Rattle.protocol.specs.Steps.{Effect, execute, accepted, all_heard, carry_out_step}
-use Rattle.protocol.proofs.Grow.{Adds, Keeps, silent, is_vote, is_report, is_closing, certified_grows, executed_grows, replied_grows, votes_grow, logs_grow, prepares_grow, closings_grow, holds_grow, opens_grow}
+use Rattle.protocol.specs.Votes.{vote}
+use Rattle.protocol.proofs.Grow.{Adds, Keeps, certified_grows, executed_grows, replied_grows, chosen_grows, closed_before_grows}
 use Rattle.protocol.proofs.Parts.{Executes, Replies, Logs, Reports, Inv}
 use Rattle.protocol.proofs.Tests.{as_accepted, every_at}
 
@@ -52,7 +53,7 @@ module _ {machine : RequestMachine} {facts : Facts machine} (s : State) (state :
 
     logs : Logs s.config machine facts' s.number s.view s.phase (max s.logged (s.executed + 1)) (set s.log s.executed entry)
     logs =
-        let old = logs_grow s.config adds.grows inv.logs in
+        let old : Logs s.config machine facts' s.number s.view s.phase s.logged s.log = search (arith, inv.logs, certified_grows s.config adds.grows) in
         record {
           certified = λ k l h inside grouped. grind (arith, elements, certified h inside, old.certified k, inv.shape);
           none_later = λ k l. grind (arith, elements, inv.logs.none_later k, inv.shape);
@@ -78,27 +79,28 @@ module _ {machine : RequestMachine} {facts : Facts machine} (s : State) (state :
 
     reports : Reports s.config machine facts' s.number s.view
     reports =
-        let quiet = silent adds is_report (λ t. t) in
         record {
-          none_later = λ w es k. inv.reports.none_later w es (quiet _ tt k);
+          none_later = λ w es k. inv.reports.none_later w es (grind (arith, adds.only _ k));
           kept = λ v n r outcome w es later known reported.
-              let old = quiet _ tt reported in
+              let old : facts.Known s.number (report w es) = grind (arith, adds.only _ reported) in
               ⊎_elim (λ known. inv.reports.kept v n r outcome w es later known old) (λ new. absurd (grind (arith, inv.reports.none_later w es old))) (which v n r outcome known);
         }
 
     executing : Inv machine facts' (with_executed s) (machine.step state (next_request s)).0
     executing =
+        let old : (v n : ℕ) (r : Request) → facts'.Known s.number (vote s.config v s.number n r) → facts.Known s.number (vote s.config v s.number n r) =
+        λ v n r k. grind (arith, adds.only _ k) in
         record {
           shape = search (arith, length-set {A = LogEntry}, inv.shape);
-          votes = votes_grow s.config adds.grows (silent adds is_vote (λ t. t)) inv.votes;
-          prepares = prepares_grow s.config adds.grows inv.prepares;
+          votes = search (arith, old, inv.votes, chosen_grows s.config adds.grows);
+          prepares = search (arith, adds.grows.known, inv.prepares);
           executes = executes;
           replies = replies;
           logs = logs;
           reports = reports;
-          closings = closings_grow s.config adds.grows (silent adds is_closing (λ t. t)) inv.closings;
-          holds = holds_grow s.config adds.grows inv.holds;
-          opens = opens_grow s.config adds.grows inv.opens;
+          closings = search (arith, adds.only, inv.closings, closed_before_grows s.config adds.grows);
+          holds = search (arith, adds.grows.known, inv.holds, certified_grows s.config adds.grows);
+          opens = search (arith, inv.opens.chosen, chosen_grows s.config adds.grows);
         }
 
 -- an accepted carry out keeps all

@@ -91,4 +91,4 @@ open_keeps sealed fits room {machine} {facts} {facts'} {s} {state} inv {s'} {eff
     let is : T (closed s.phase) × T (all_noted s) × T (holds_all s (named s))
     × (accepted (with_selection s (selects s) (choices s)) renew None (selects s) ≡ accepted s' effect statement answer) = grind arith in
     as_accepted (Keeps facts facts' s state) is.3
-    (record { in_range = tt; keeps = λ adds. opening_keeps machine facts' s state (inv_adds adds (λ t. t) inv) is.0 is.1 is.2 opened })
+    (record { in_range = tt; keeps = λ adds. opening_keeps machine facts' s state (inv_adds adds (λ st e. cc) inv) is.0 is.1 is.2 opened })

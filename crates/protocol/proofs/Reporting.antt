@@ -28,7 +28,7 @@ use Rattle.protocol.proofs.Tests.{as_accepted, every_at}
 use Rattle.protocol.proofs.Lists.{has_entry}
 use Rattle.protocol.proofs.Known.{fits_vote, fits_report, report_in_range}
 use Rattle.protocol.proofs.Parts.{has_closed, serving, Shape, Reports, Holds, Inv}
-use Rattle.protocol.proofs.Grow.{Adds, Keeps, silent, is_vote, is_reply, is_closing, certified_grows, votes_grow, replies_grow, logs_grow, closings_grow, holds_grow, inv_adds}
+use Rattle.protocol.proofs.Grow.{Adds, Keeps, certified_grows, inv_adds, chosen_grows, replied_grows}
 
 -- ---- certificates
 
@@ -101,7 +101,7 @@ module _ (machine : RequestMachine) (facts facts' : Facts machine) (s : State) (
         record {
           none_later = λ w es known. grind (arith, inv.reports.none_later w es, adds.only (report w es) known);
           kept = λ v n r outcome w es later known reports.
-              let replied = silent adds is_reply (λ t. t) (reply v n r outcome) tt known in
+              let replied : facts.Known s.number (reply v n r outcome) = grind (arith, adds.only _ known) in
               ⊎_elim (λ old. inv.reports.kept v n r outcome w es later replied old)
               (λ e. let same : entries s ≡ es = cc in subst (λ (l : List LogEntry). HasEntry l n v) same (replied_entered v n r outcome replied))
               (adds.only (report w es) reports);
@@ -113,21 +113,21 @@ module _ (machine : RequestMachine) (facts facts' : Facts machine) (s : State) (
         → Holds s.config machine facts' s.number s.view (λ x. entries_in (get_or reports x None)) (noted s)
         → Inv machine facts' (changed_to s s.view phase reports s.closings) state
     reported_keeps phase reports idle' unclosed long grouped holds =
-        let votes = votes_grow s.config adds.grows (silent adds is_vote (λ t. t)) inv.votes in
-        let logs = logs_grow s.config adds.grows inv.logs in
-        let closings = closings_grow s.config adds.grows (silent adds is_closing (λ t. t)) inv.closings in
         record {
           shape = search (arith, inv.shape);
-          votes = search (arith, votes);
+          votes = search (arith, adds.only, inv.votes, chosen_grows s.config adds.grows);
           prepares = search arith;
           executes = search arith;
-          replies = replies_grow s.config adds.grows (silent adds is_reply (λ t. t)) inv.replies;
-          logs = search (arith, logs);
+          replies = search (arith, adds.only, inv.replies, replied_grows s.config adds.grows);
+          logs = search (arith, inv.logs, certified_grows s.config adds.grows);
           reports = reports_more;
-          closings = search (arith, closings);
+          closings = search (arith, adds.only, inv.closings);
           holds = holds;
           opens = search arith;
         }
+
+    holds_more : Holds s.config machine facts' s.number s.view (held s) (noted s)
+    holds_more = search (arith, adds.grows.known, inv.holds, certified_grows s.config adds.grows)
 
     -- a member holds its own report and gathers, another steps aside
     reporting_keeps : Inv machine facts' (reported s) state
@@ -138,17 +138,17 @@ module _ (machine : RequestMachine) (facts facts' : Facts machine) (s : State) (
 
         own_certified : Sound s.config facts' s.view (entries s)
         own_certified k l =
-            let logs = logs_grow s.config adds.grows inv.logs in
-            (early_entries k l, rw (get_or-take s.logged s.log k blank_entry (omega (arith, long_entries))) (logs.certified k (omega (arith, long_entries))))
+            let below : k < s.logged = omega (arith, long_entries) in
+            (early_entries k l, rw (get_or-take s.logged s.log k blank_entry below) (certified_grows s.config adds.grows _ (suc k) _ (inv.logs.certified k below)))
 
         go : (member : Bool) → active s ≡ member
             → Inv machine facts' (cond member (with_report s Gathering s.number own) (changed_to s s.view Aside s.reports s.closings)) state
         go true is =
             reported_keeps Gathering (set s.reports s.number (Some own)) (λ t. t) (λ t. t)
             (length-set s.reports s.number (Some own) ∙ inv.shape.long_reports) (λ t. subst T (sym is) tt)
-            (report_held machine facts' s inv.shape (holds_grow s.config adds.grows inv.holds) s.number own (entries s) inv.shape.inside refl
+            (report_held machine facts' s inv.shape holds_more s.number own (entries s) inv.shape.inside refl
             (adds.new (report s.view (entries s)) refl) (rw long_entries inv.shape.few_logged) own_certified)
-        go false is = reported_keeps Aside s.reports (λ t. t) (λ t. t) inv.shape.long_reports (λ t. absurd t) (holds_grow s.config adds.grows inv.holds)
+        go false is = reported_keeps Aside s.reports (λ t. t) (λ t. t) inv.shape.long_reports (λ t. absurd t) holds_more
 
 hold_keeps : {machine : RequestMachine} {facts : Facts machine} {s : State} {state : machine.State} → Inv machine facts s state → (g : ℕ) (es : List LogEntry) → g < replicas s.config → facts.Known g (report s.view es) → length es ≤ last_number
     → Sound s.config facts s.view es
@@ -185,4 +185,4 @@ module _ (sealed : ℕ → List ℕ → Bool) (fits : ℕ → Bool) (room : ℕ)
       (λ k l. (rw same at (range.1 k blank_entry l), λ h inside grouped. knows h _ (certificates s.config sealed view es (rw same inv.shape.low_view) range is.0 k l h inside grouped)))
       in
       as_accepted (Keeps facts facts' s state) is.1
-      (record { in_range = tt; keeps = λ adds. inv_adds adds (λ t. t) kept })
+      (record { in_range = tt; keeps = λ adds. inv_adds adds (λ st e. cc) kept })

@@ -1,15 +1,12 @@
 -- Every run of a new cluster keeps what its honest replicas keep: each event by its caller's step, and for the others because more is known.
-use Rattle.std.proofs.Common.{◌≡◌, ℕ, min, Bool, true, false, cond, ◌||◌, List, [], ◌∷◌, ◌++◌, length, Some, None, Option, Result, refl, ap, arith}
+use Rattle.std.proofs.Common.{◌≡◌, ℕ, min, Bool, List, [], ◌∷◌, ◌++◌, length, Some, None, Option, Result, refl, ap, arith}
 use Rattle.std.specs.List.{slice_get}
 use Rattle.std.proofs.lemmas.Option.{none-some}
 use Rattle.wire.specs.declared.config.ClusterConfig.{ClusterConfig}
-use Rattle.wire.specs.Statements.{Statement}
 use Rattle.protocol.specs.declared.fault.ReplicaFault.{ReplicaFault}
 use Rattle.protocol.specs.Agreement.{Covers}
-use Rattle.protocol.specs.Receipts.{Made}
 use Rattle.protocol.specs.Replay.{RequestMachine}
 use Rattle.protocol.specs.Runs.{Node, Cluster, Event, call, byzantine_seal, Deed, Happens, Run, none, more, New, caller}
-use Rattle.protocol.specs.Verdicts.{added}
 use Rattle.protocol.proofs.History.{among_more, among_new}
 use Rattle.protocol.proofs.Known.{made_kept, made_by_others}
 use Rattle.protocol.proofs.Clusters.{Kept, still_kept, call_kept}

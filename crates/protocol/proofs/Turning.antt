@@ -26,10 +26,10 @@ module _ (sealed : ℕ → List ℕ → Bool) (fits : ℕ → Bool) (room : ℕ)
       as_accepted (Keeps facts facts' s state) is.1
       (record {
         in_range = grind (arith, nat_tests, inv.shape);
-        keeps = λ adds. inv_adds adds (λ t. t) (turn_keeps inv is.0);
+        keeps = λ adds. inv_adds adds (λ st e. (s.view, cc)) (turn_keeps inv is.0);
       })
 
   pub hear_doubt_keeps : hear_doubt sealed fits room s ≡ accepted s' effect statement answer → Keeps facts facts' s state s' effect statement
   hear_doubt_keeps e =
       let is : (s.view < last_view) × (accepted (turned s) rest None 0 ≡ accepted s' effect statement answer) = grind (arith, nat_tests) in
-      as_accepted (Keeps facts facts' s state) is.1 (record { in_range = tt; keeps = λ adds. inv_adds adds (λ t. t) (turn_keeps inv is.0) })
+      as_accepted (Keeps facts facts' s state) is.1 (record { in_range = tt; keeps = λ adds. inv_adds adds (λ st e. cc) (turn_keeps inv is.0) })

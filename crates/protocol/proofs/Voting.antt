@@ -19,7 +19,7 @@ use Rattle.protocol.specs.Rules.{Chosen}
 use Rattle.protocol.specs.States.{working, leads, prepared_at, selected_at, commits_at, with_prepared, with_commits}
 use Rattle.protocol.specs.Steps.{Effect, rest, accepted, allows, entitles, order_step, repeat_step, hear_prepare, hear_commit}
 use Rattle.protocol.specs.Votes.{vote}
-use Rattle.protocol.proofs.Grow.{Adds, Keeps, silent, is_report, is_closing, is_reply, chosen_grows, executes_grow, replies_grow, logs_grow, reports_grow, closings_grow, holds_grow, opens_grow, inv_adds}
+use Rattle.protocol.proofs.Grow.{Adds, Keeps, chosen_grows, reports_grow, inv_adds, replied_grows, certified_grows, closed_before_grows, executed_grows}
 use Rattle.protocol.proofs.Known.{fits_vote}
 use Rattle.protocol.proofs.Masks.{names_more}
 use Rattle.protocol.proofs.Parts.{Shape, Votes, Prepares, Inv}
@@ -77,19 +77,17 @@ module _ {machine : RequestMachine} {facts facts' : Facts machine} (s : State) (
 
   voting : Inv machine facts' (with_prepared s r commits) state
   voting =
-      let no_report = silent adds is_report (λ t. grind arith) in
-      let no_reply = silent adds is_reply (λ t. grind arith) in
       record {
         shape = search (arith, length-set {A = ℕ}, length-set {A = Request}, inv.shape);
         votes = votes;
         prepares = prepares;
-        executes = executes_grow s.config adds.grows inv.executes;
-        replies = replies_grow s.config adds.grows no_reply inv.replies;
-        logs = logs_grow s.config adds.grows inv.logs;
-        reports = reports_grow s.config adds.grows no_reply no_report inv.reports;
-        closings = closings_grow s.config adds.grows (silent adds is_closing (λ t. grind arith)) inv.closings;
-        holds = holds_grow s.config adds.grows inv.holds;
-        opens = opens_grow s.config adds.grows inv.opens;
+        executes = search (arith, inv.executes, executed_grows s.config adds.grows);
+        replies = search (arith, adds.only, inv.replies, replied_grows s.config adds.grows);
+        logs = search (arith, inv.logs, certified_grows s.config adds.grows);
+        reports = reports_grow s.config adds.grows adds.only (λ w es e. grind arith) (λ v n r outcome e. grind arith) inv.reports;
+        closings = search (arith, adds.only, inv.closings, closed_before_grows s.config adds.grows);
+        holds = search (arith, adds.grows.known, inv.holds, certified_grows s.config adds.grows);
+        opens = search (arith, inv.opens.chosen, chosen_grows s.config adds.grows);
       }
 
 -- ---- one more commit is heard for a number that is prepared
@@ -174,6 +172,6 @@ module _ (sealed : ℕ → List ℕ → Bool) (fits : ℕ → Bool) (room : ℕ)
         (record {
           in_range = tt;
           keeps = λ adds.
-              hearing s state (inv_adds adds (λ t. t) inv) (number - 1) commits (omega arith)
+              hearing s state (inv_adds adds (λ st e. cc) inv) (number - 1) commits (omega arith)
               (λ x t. grind (arith, nat_tests, names_more (commits_at s (number - 1)) g x, adds.grows.known g _ told));
         })

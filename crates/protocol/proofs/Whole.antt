@@ -1,15 +1,14 @@
 -- Agreement: every run keeps what gives the rules of its honest replicas, and the rules give agreement.
-use Rattle.std.proofs.Common.{◌≡◌, ℕ, suc, ◌≤◌, Bool, T, List, length, get_or, sym, ap, ◌∙◌, subst, arith}
+use Rattle.std.proofs.Common.{◌≡◌, ℕ, ◌≤◌, Bool, T, List, length, get_or, sym, ap, ◌∙◌, subst, arith}
 use Rattle.std.specs.List.{slice_get}
 use Rattle.std.proofs.lemmas.Option.{slice_get-get_or, same_Some}
 use Rattle.wire.specs.declared.config.ClusterConfig.{ClusterConfig}
-use Rattle.wire.specs.declared.entry.LogEntry.{LogEntry}
 use Rattle.groups.proofs.Quorum.{sized}
 use Rattle.protocol.specs.declared.state.State.{State}
 use Rattle.protocol.specs.Agreement.{log_of, facts_of, Agreement}
 use Rattle.protocol.specs.Facts.{Facts}
 use Rattle.protocol.specs.Replay.{RequestMachine}
-use Rattle.protocol.specs.Rules.{Certified, KeepsRules, Rules}
+use Rattle.protocol.specs.Rules.{KeepsRules, Rules}
 use Rattle.protocol.specs.Runs.{Cluster, Deed, new_node}
 use Rattle.protocol.specs.States.{working, entries}
 use Rattle.protocol.proofs.Agree.{rules_agree}
