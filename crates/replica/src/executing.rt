@@ -8,9 +8,9 @@ ghost use Rattle.protocol.specs.States.{with_executed};
 ghost use Rattle.protocol.specs.Steps.{carries_out, all_heard};
 ghost use Rattle.replica.specs.Calls.{scene, Does};
 
+use crate::phases::group_of;
 use crate::replica::Replica;
 use crate::sending::{check_room, send};
-use groups::group::Group;
 use machines::machine::Machine;
 use protocol::fault::ReplicaFault;
 use protocol::state::{Phase, State};
@@ -33,7 +33,7 @@ fn next_is_voted(state: &State) -> bool
     requires { state.now.executed < last_number }
     ensures { result ≡ all_heard state.now state.now.executed }
 {
-    let group = Group::serving(state.config, state.view);
+    let group = group_of(state);
     let commits = state.commits_heard[usize::from(state.executed)];
     all_voted(group.members(), group.primary(), commits)
 }
@@ -48,9 +48,7 @@ fn enter_next(state: &mut State)
     let view = state.view;
     state.log[place] = LogEntry { view, request };
     state.executed += 1;
-    if state.logged < state.executed {
-        state.logged = state.executed;
-    }
+    state.logged = state.logged.max(state.executed);
 }
 
 impl<M: Machine> Replica<M> {

@@ -5,9 +5,9 @@ ghost use Rattle.protocol.specs.States.{reported, most_replicas};
 ghost use Rattle.protocol.specs.Steps.{reports};
 ghost use Rattle.replica.specs.Calls.{scene, Does};
 
+use crate::phases::group_of;
 use crate::replica::Replica;
 use crate::sending::{check_room, send};
-use groups::group::Group;
 use machines::machine::Machine;
 use protocol::fault::ReplicaFault;
 use protocol::state::{HeldReport, Phase, State};
@@ -20,7 +20,7 @@ fn hold_own(state: &mut State)
     requires { state.old.number < most_replicas }
     ensures { state.new ≡ reported state.old }
 {
-    if !Group::serving(state.config, state.view).contains(state.number) {
+    if !group_of(state).contains(state.number) {
         state.phase = Phase::Aside;
         return;
     }
