@@ -1,10 +1,9 @@
 -- Checking equal parts in order: the first that is refused, or none.
-use Rattle.std.proofs.Common.{◌≡◌, ℕ, suc, ◌+◌, ◌*◌, ◌/◌, ◌<◌, ◌≤◌, eqb, ltb, List, [], ◌∷◌, ◌++◌, length, take, drop, Some, None, Ok, Err, Option, Result, ControlFlow, Continue, Break, MatchOption, sym, refl, ap, ◌∙◌, subst, add-one, mul-add, arith, length-append, take_at, drop_at}
+use Rattle.std.proofs.Common.{◌≡◌, ℕ, suc, ◌+◌, ◌*◌, ◌/◌, ◌<◌, ◌≤◌, eqb, ltb, List, [], ◌∷◌, length, take, drop, Some, None, Ok, Err, Option, Result, MatchOption, sym, refl, ap, ◌∙◌, subst, add-one, mul-add, arith, length-append, take_at, drop_at}
 use Rattle.std.proofs.Math.Nat.{div-eq_of_lt, add-div_left}
 use Rattle.std.proofs.lemmas.List.{drop-take}
 use Rattle.std.specs.Option.{ok_or}
-use Rattle.std.specs.Fn.{Mut, Called, Takes}
-use Rattle.std.specs.Iterator.{Yields, YieldsThen, CallableAtEachTurn, TryForEachTurn, TryCallsOnEach}
+use Rattle.std.specs.Iterator.{Yields, YieldsThen, CallableAtEachTurn}
 use Rattle.std.specs.Iterator.Adapters.{enumerate_source, enumerate_count, enumerate_steps}
 use Rattle.std.specs.declared.iter.Enumerate.{Enumerate}
 use Rattle.std.specs.declared.slice.ChunksExact.{ChunksExact}
@@ -122,7 +121,7 @@ module _ (part : ℕ) where
             let rest = checked_from xs o q run.1.0 u size' (run.0, run.1.2, run.2) (subst (λ (p : F). FoldsTo R p xs q) g.0 folds.2) end in
             let next = step.2 ∙ add-one (enumerate_count s) in
             let others : parts_read part read (length (left run.1.0) / part) (enumerate_count run.1.0) (left run.1.0)
-                ≡ parts_read part read (length (left run.1.0) / part) (suc (enumerate_count s)) (drop part (left s)) = λ i. parts_read part read (length (left run.1.0) / part) (next i) (sym p.1 i) in
+            ≡ parts_read part read (length (left run.1.0) / part) (suc (enumerate_count s)) (drop part (left s)) = λ i. parts_read part read (length (left run.1.0) / part) (next i) (sym p.1 i) in
             rest ∙ ap checked others ∙ sym (checked_rest a.0 (parts_read part read (length (left run.1.0) / part) (suc (enumerate_count s)) (drop part (left s)))) ∙ (rw (more, good) refl)
 
       -- what the turns over all parts answer

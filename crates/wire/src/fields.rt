@@ -27,6 +27,7 @@ impl Message<'_> {
     }
 
     // How many rows, and so bodies, the message has.
+    #[tactic(auto, using(crate::proofs::Found::length_entries))]
     pub fn rows(&self) -> usize
         ensures { result ≡ rows_in (says self.now).statement }
     {
