@@ -7,6 +7,7 @@ use wire::config::{ClusterConfig, ClusterSize};
 use wire::fault::ReadFault;
 use wire::kind::LAST_VIEW;
 
+// The rows are written out: no heap is there to build them, and the laws are computed from them.
 const ROWS_OF_THREE: [[u8; 2]; 3] = [[0, 1], [0, 2], [1, 2]];
 
 const ROWS_OF_FIVE: [[u8; 3]; 10] = [

@@ -1,8 +1,7 @@
 -- The entries that were read are those that stand in the bodies.
-use Rattle.std.proofs.Common.{◌≡◌, ℕ, zero, suc, ◌+◌, ◌*◌, ◌/◌, ◌<◌, ◌≤◌, Bool, true, false, ltb, List, ◌∷◌, length, take, drop, Some, None, Ok, Err, Option, Result, MatchOption, unwrap_or, sym, refl, ap, ◌∙◌, not-suc-le-zero, arith, drop-drop}
+use Rattle.std.proofs.Common.{◌≡◌, ℕ, zero, suc, ◌+◌, ◌*◌, ◌/◌, Bool, true, false, ltb, List, ◌∷◌, length, take, drop, Some, None, Ok, Err, Option, Result, unwrap_or, sym, refl, ap, ◌∙◌, arith}
 use Rattle.std.proofs.lemmas.List.{drop-take}
-use denote.Ref.{Bor}
-use Rattle.std.specs.List.{slice_get}
+use Rattle.std.specs.List.{IsSplitAt}
 use Rattle.std.specs.Option.{ok_or}
 use Rattle.wire.specs.declared.entry.LogEntry.{LogEntry}
 use Rattle.wire.specs.declared.fault.ReadFault.{ReadFault}
@@ -66,28 +65,13 @@ entry_in_part bs =
     let w = ap (λ (part : List ℕ). num part 6 8) rest ∙ num-take 14 (drop 4 bs) 6 8 (omega arith) in
     λ i. record { view = v i; request = request_or_blank (c i) (s i) (w i) }
 
--- the entry of a row
-entry_at : (rows row : ℕ) (bs : List ℕ) → row < rows → slice_get (entries_in rows bs) row ≡ Some (entry_in (drop (18 * row) bs))
-entry_at zero row bs within = absurd (not-suc-le-zero within)
-entry_at (suc rows) zero bs within = refl
-entry_at (suc rows) (suc row) bs within =
-    entry_at rows row (drop 18 bs) (omega arith) ∙ ap (λ (l : List ℕ). Some (entry_in l)) (drop-drop (18 * row) 18 bs ∙ ap (λ (k : ℕ). drop k bs) (omega arith))
-
-no_entry_past : (rows row : ℕ) (bs : List ℕ) → rows ≤ row → slice_get (entries_in rows bs) row ≡ None
-no_entry_past zero row bs past = refl
-no_entry_past (suc rows) zero bs past = absurd (not-suc-le-zero past)
-no_entry_past (suc rows) (suc row) bs past = no_entry_past rows row (drop 18 bs) (omega arith)
-
 pub length_entries : (rows : ℕ) (bs : List ℕ) → length (entries_in rows bs) ≡ rows
 length_entries zero bs = refl
 length_entries (suc rows) bs = ap suc (length_entries rows (drop 18 bs))
 
--- what is decoded of the part of a row is the entry of the row
-pub entry_of_part : (bs : List ℕ) (row : ℕ) (part : Option (Bor (List ℕ))) (e : Option LogEntry)
-    → MatchOption part (length bs / 18 ≤ row) (λ x. (row * 18 + 18 ≤ length bs) × (x.now ≡ take 18 (drop (row * 18) bs)))
-    → MatchOption part (e ≡ None) (λ x. e ≡ Some (entry_in x.now)) → e ≡ slice_get (entries_in (length bs / 18) bs) row
-entry_of_part bs row None e past is = is ∙ sym (no_entry_past (length bs / 18) row bs past)
-entry_of_part bs row (Some x) e here is =
-    let place : drop (row * 18) bs ≡ drop (18 * row) bs = ap (λ (k : ℕ). drop k bs) (omega arith) in
-    is ∙ ap (λ (part : List ℕ). Some (entry_in part)) here.1 ∙ ap Some (entry_in_part (drop (row * 18) bs)) ∙ ap (λ (part : List ℕ). Some (entry_in part)) place
-    ∙ sym (entry_at (length bs / 18) row bs (omega (arith, here.0)))
+-- the first entry that is left, and those after it
+pub entries_first : (bs body rest : List ℕ) → IsSplitAt bs 18 body rest → entries_in (length bs / 18) bs ≡ entry_in body ∷ entries_in (length rest / 18) rest
+entries_first bs body rest cut =
+    let n : length bs / 18 ≡ suc (length rest / 18) = omega (arith, cut.4) in
+    let first = ap entry_in cut.1 ∙ entry_in_part bs in
+    ap (λ (k : ℕ). entries_in k bs) n ∙ sym (λ i. first i ∷ entries_in (length rest / 18) (cut.2 i))

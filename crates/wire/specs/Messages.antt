@@ -2,6 +2,7 @@
 use Rattle.std.specs.Prelude.{◌≡◌, ℕ, zero, suc, ◌/◌, List, [], ◌∷◌, length, drop, Ok, Err, Result}
 use Rattle.wire.specs.declared.entry.LogEntry.{LogEntry}
 use Rattle.wire.specs.declared.fault.ReadFault.{ReadFault}
+use Rattle.wire.specs.declared.fields.Entries.{Entries}
 use Rattle.wire.specs.declared.message.Message.{Message}
 use Rattle.wire.specs.declared.message.Message.TheVariants.{Prepare, Commit, Doubt, Report, Closing, Reply}
 use Rattle.wire.specs.declared.message.Report.{Report as ReadReport}
@@ -30,6 +31,10 @@ rows_of r = length r.bodies.now / 18
 -- the entries of a report
 abbrev pub entries_of : ReadReport → List LogEntry
 entries_of r = entries_in (rows_of r) r.bodies.now
+
+-- the entries that an iterator has left
+abbrev pub entries_left : Entries → List LogEntry
+entries_left s = entries_in (length s.bodies.now / 18) s.bodies.now
 
 -- the request of a vote
 abbrev pub request_of : Vote → Request

@@ -1,7 +1,8 @@
 // The fields of a read message.
 ghost use Rattle.std.specs.Prelude.{◌≡◌, ◌≤◌, length};
+ghost use Rattle.std.specs.Iterator.{YieldsFirst, item_count};
 ghost use Rattle.std.specs.List.{slice_get};
-ghost use Rattle.wire.specs.Messages.{says, request_of, entry_in, rows_of, entries_of};
+ghost use Rattle.wire.specs.Messages.{says, request_of, entry_in, rows_of, entries_of, entries_left};
 ghost use Rattle.wire.specs.Statements.{view_of};
 ghost use Rattle.wire.specs.Writing.{kind_in, rows_in};
 
@@ -27,6 +28,7 @@ impl Message<'_> {
     }
 
     // How many rows, and so bodies, the message has.
+    #[tactic(auto, using(crate::proofs::Found::length_entries))]
     pub fn rows(&self) -> usize
         ensures { result ≡ rows_in (says self.now).statement }
     {
@@ -117,7 +119,7 @@ impl Reply<'_> {
     }
 }
 
-impl Report<'_> {
+impl<'a> Report<'a> {
     // How many entries there are.
     pub fn len(&self) -> usize
         ensures { result ≡ rows_of self.now }
@@ -125,10 +127,39 @@ impl Report<'_> {
         self.bodies.len() / 18
     }
 
+    // All entries in order.
+    pub fn entries(&self) -> Entries<'a>
+        ensures { entries_left result ≡ entries_of self.now }
+    {
+        Entries {
+            bodies: self.bodies,
+        }
+    }
+
     // The entry of a row, counted from 0.
     pub fn entry(&self, row: usize) -> Option<LogEntry>
         ensures { result ≡ slice_get (entries_of self.now) row }
     {
-        self.bodies.chunks_exact(18).nth(row).map(entry_of)
+        self.entries().nth(row)
+    }
+}
+
+// The entries of a report that are still to come.
+#[derive(Drop)]
+pub struct Entries<'a> {
+    bodies: &'a [u8],
+}
+
+impl Iterator for Entries<'_> {
+    type Item = LogEntry;
+
+    ghost next_gives = { YieldsFirst entries_left };
+
+    ghost remaining = { item_count entries_left };
+
+    fn next(&mut self) -> Option<LogEntry> {
+        let (body, rest) = self.bodies.split_at_checked(18)?;
+        self.bodies = rest;
+        Some(entry_of(body))
     }
 }

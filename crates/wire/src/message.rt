@@ -1,4 +1,5 @@
 // A read message: one of the six kinds, with the parts of the input that it holds.
+// Replica and view stand in each case, not beside the enum, so that a case alone is the whole message.
 use crate::request::Request;
 
 #[derive(Clone, Copy)]
