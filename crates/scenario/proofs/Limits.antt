@@ -1,7 +1,7 @@
 -- A number that is above a limit stays above it with more digits behind it.
 use Rattle.std.proofs.Common.{◌≡◌, ℕ, ◌+◌, ◌*◌, ◌<◌, ◌≤◌, Bool, true, false, cond, ltb, leb, List, [], ◌∷◌, length, get_or, drop, Some, None, Option, sym, refl, ap, ◌∙◌, mul-le-mul_left, arith}
 use Rattle.std.proofs.lemmas.List.{at_drop_more}
-use Rattle.std.proofs.lemmas.Bool.{lt-leb, leb-false, leb-true, ltb-true}
+use Rattle.std.proofs.lemmas.Bool.{lt-leb, leb-false, ltb-true}
 use Rattle.std.specs.Option.{option_map}
 use Rattle.scenario.specs.Numbers.{after, digit_value, appended, continued, numeral, up_to}
 
@@ -31,14 +31,6 @@ step most base n b bs = go (appended base n b)
     go : (o : Option ℕ) → up_to most (after o (λ m. continued base m bs)) ≡ after (up_to most o) (λ m. up_to most (continued base m bs))
     go None = refl
     go (Some m) = at m (leb m most) refl
-
-pub up_to_le : (most n : ℕ) (o : Option ℕ) → Some n ≡ up_to most o → n ≤ most
-up_to_le most n None e = absurd (let z : ◌≡◌ {A = ℕ} 0 1 = cc in omega arith)
-up_to_le most n (Some m) e = at (leb m most) refl e
-  where
-    at : (t : Bool) → leb m most ≡ t → Some n ≡ cond t (Some m) None → n ≤ most
-    at true l e = let z : m ≡ n = cc in omega (arith, leb-true m most l)
-    at false l e = absurd (let z : ◌≡◌ {A = ℕ} 0 1 = cc in omega arith)
 
 pub numeral_some : (base : ℕ) (word : List ℕ) → 0 < length word → numeral base word ≡ continued base 0 word
 numeral_some base [] h = absurd (omega arith)

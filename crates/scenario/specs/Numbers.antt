@@ -1,5 +1,6 @@
 -- Numbers written by digits, the highest first.
-use Rattle.std.specs.Prelude.{ℕ, ◌+◌, ◌-◌, ◌*◌, Bool, cond, ◌&&◌, List, [], ◌∷◌, length, Some, None, Option, ◌==◌, nat_le, nat_lt}
+use Rattle.std.specs.Prelude.{◌≡◌, ℕ, ◌+◌, ◌-◌, ◌*◌, Bool, cond, ◌&&◌, List, [], ◌∷◌, length, Some, None, Option, ◌==◌, nat_le, nat_lt, Result, MatchOption, IsNone}
+use Rattle.std.specs.Result.{result_ok}
 use Rattle.std.specs.Option.{option_map}
 
 -- what is made of a value, if there is one
@@ -37,6 +38,18 @@ numeral base (b ∷ bs) = continued base 0 (b ∷ bs)
 abbrev pub up_to : ℕ → Option ℕ → Option ℕ
 up_to most o = after o (λ n. cond (nat_le n most) (Some n) None)
 
+-- a number that 64 bits hold
+abbrev pub in_u64 : Option ℕ → Option ℕ
+in_u64 o = up_to 18446744073709551615 o
+
+-- r is what an answer that may be given holds
+abbrev pub IsMade : {X E : Type 0} → (Result X E → Type 0) → Option X → Type 0
+IsMade {X} {E} given r = (answer : Result X E) × given answer × (r ≡ result_ok answer)
+
+-- r is what a conversion makes of a number, if there is one
+abbrev pub IsConverted : {X E : Type 0} → (ℕ → Result X E → Type 0) → Option ℕ → Option X → Type 0
+IsConverted gives o r = MatchOption o (IsNone r) (λ n. IsMade (gives n) r)
+
 -- the work that 16 hexadecimal digits write
 abbrev pub work_of : List ℕ → Option ℕ
-work_of word = cond (length word == 16) (up_to 18446744073709551615 (numeral 16 word)) None
+work_of word = cond (length word == 16) (in_u64 (numeral 16 word)) None

@@ -1,66 +1,97 @@
 // The lines of a text, and the words of a line.
-ghost use Rattle.std.specs.Prelude.{◌≡◌, drop};
-ghost use Rattle.std.specs.List.{prefix_len};
-ghost use Rattle.scenario.specs.Classes.{of_class, front, behind};
+ghost use Rattle.std.specs.Prelude.{◌≡◌, ℕ, ◌+◌, Bool, List, length};
+ghost use Rattle.std.specs.Iterator.{at_most};
+ghost use Rattle.scenario.specs.Classes.{blank, front, behind, NextLine, NextWord};
 
-// What a byte is part of.
-#[derive(Clone, Copy)]
-pub enum Class {
-    Blank,
-    Word,
-    Line,
+use std::marker::Model;
+
+// A space or a tab.
+fn is_blank(b: u8) -> bool
+    ensures { result ≡ blank b }
+{
+    matches!(b, b' ' | b'\t')
 }
 
-impl Class {
-    fn has(self, b: u8) -> bool
-        ensures { result ≡ of_class self b }
+// The bytes at the front of a text that pass a test, and the rest.
+fn cut<P: Fn(u8) -> bool>(text: &[u8], passes: P) -> (&[u8], &[u8])
+    requires { P.IsAlwaysCallable passes }
+    ensures parts { (p : ℕ → Bool) → ((b : ℕ) (r : Bool) → P.post passes b r → r ≡ p b) → (result.0.now ≡ front p text.now) × (result.1.now ≡ behind p text.now) }
+    ensures whole { length result.0.now + length result.1.now ≡ length text.now }
+{
+    let end = text.iter().position(|b| !passes(*b));
+    text.split_at(end.unwrap_or(text.len()))
+}
+
+// The lines of a text, in order. What ends a line is in none.
+#[derive(Drop)]
+pub struct Lines<'a> {
+    text: &'a [u8],
+}
+
+// The part of the text that is not yet read.
+impl<'a> Model for Lines<'a> {
+    ghost Value = { List ℕ };
+
+    ghost view = { λ lines. lines.text.now };
+}
+
+impl<'a> Lines<'a> {
+    pub fn new(text: &'a [u8]) -> Lines<'a>
+        ensures { result ≡ text.now }
     {
-        match self {
-            Class::Blank => b == b' ' || b == b'\t',
-            Class::Word => !(b == b' ' || b == b'\t'),
-            Class::Line => b != b'\n',
+        Lines { text }
+    }
+}
+
+impl<'a> Iterator for Lines<'a> {
+    type Item = &'a [u8];
+
+    ghost next_gives = { NextLine };
+
+    ghost remaining = { λ text. at_most (length text) };
+
+    fn next(&mut self) -> Option<&'a [u8]> {
+        if self.text.is_empty() {
+            return None;
         }
+        let (line, rest) = cut(self.text, |b| b != b'\n');
+        self.text = rest.get(1..).unwrap_or(&[]);
+        Some(line)
     }
 }
 
-// How many bytes at the front of a text are of a class.
-fn run_length(text: &[u8], class: Class) -> usize
-    ensures { result ≡ prefix_len (of_class class) text.now }
-{
-    for (i, b) in text.iter().enumerate() {
-        if !class.has(*b) {
-            return i;
-        }
+// The words of a line, in order.
+#[derive(Drop)]
+pub struct Words<'a> {
+    line: &'a [u8],
+}
+
+// The part of the line that is not yet read.
+impl<'a> Model for Words<'a> {
+    ghost Value = { List ℕ };
+
+    ghost view = { λ words. words.line.now };
+}
+
+impl<'a> Words<'a> {
+    pub fn new(line: &'a [u8]) -> Words<'a>
+        ensures { result ≡ line.now }
+    {
+        Words { line }
     }
-    text.len()
 }
 
-// The bytes of a class at the front of a text, and the rest.
-fn cut(text: &[u8], class: Class) -> (&[u8], &[u8])
-    ensures front { result.0.now ≡ front class text.now }
-    ensures behind { result.1.now ≡ behind class text.now }
-{
-    text.split_at(run_length(text, class))
-}
+impl<'a> Iterator for Words<'a> {
+    type Item = &'a [u8];
 
-// The first line of a text, and what comes behind its end.
-pub fn first_line(text: &[u8]) -> (&[u8], &[u8])
-    ensures line { result.0.now ≡ front Class.Line text.now }
-    ensures rest { result.1.now ≡ drop 1 (behind Class.Line text.now) }
-{
-    let (line, rest) = cut(text, Class::Line);
-    if rest.is_empty() {
-        return (line, rest);
+    ghost next_gives = { NextWord };
+
+    ghost remaining = { λ line. at_most (length line) };
+
+    fn next(&mut self) -> Option<&'a [u8]> {
+        let (_, words) = cut(self.line, is_blank);
+        let (word, rest) = cut(words, |b| !is_blank(b));
+        self.line = rest;
+        (!word.is_empty()).then_some(word)
     }
-    let (_, rest) = rest.split_at(1);
-    (line, rest)
-}
-
-// The first word of a line, and what comes behind it; an empty word where there is none.
-pub fn first_word(line: &[u8]) -> (&[u8], &[u8])
-    ensures word { result.0.now ≡ front Class.Word (behind Class.Blank line.now) }
-    ensures rest { result.1.now ≡ behind Class.Word (behind Class.Blank line.now) }
-{
-    let (_, words) = cut(line, Class::Blank);
-    cut(words, Class::Word)
 }

@@ -1,191 +1,210 @@
 // What each command answers.
 use crate::any_machine::AnyMachine;
-use crate::command::{Command, Reason};
+use crate::command::{PlainCommand, Reason, RegisterCommand, RegisterPlan};
 use groups::group::Group;
-use scenario::words::print;
+use refusals::Refusal;
 use seals::fnv::fnv1a;
 use seals::register::Register;
+use std::alloc::AllocError;
 use std::fmt;
 use std::fmt::Write;
 use wire::config::ClusterConfig;
 use wire::fault::ReadFault;
-use wire::message::{Closing, Message, Reply, Report, Vote};
+use wire::message::{Message, Report};
 use wire::read::read;
 use wire::request::Request;
 
-// Answers a command that needs no cluster; a command that needs one is left.
-pub(crate) fn answer(out: &mut String, machine: &mut AnyMachine, command: &Command) -> fmt::Result {
+// What a call that may be refused answers where it is not.
+const DONE: &str = "ok 0";
+
+// A call's outcome on a line: what it gives, or the refusal.
+pub(crate) fn answer_call<T: fmt::Display + Drop>(
+    out: &mut String,
+    outcome: Result<T, Refusal>,
+) -> Result<(), AllocError> {
+    match outcome {
+        Ok(value) => writeln!(out, "{value}"),
+        Err(refusal) => writeln!(out, "{refusal}"),
+    }
+}
+
+// Answers a command that needs no cluster.
+pub(crate) fn answer(
+    out: &mut String,
+    machine: &mut AnyMachine,
+    command: PlainCommand,
+) -> Result<(), AllocError> {
     match command {
-        Command::Read { size, bytes } => answer_read(out, *size, bytes.as_slice()),
-        Command::Group { size, view } => answer_group(out, *size, *view),
-        Command::Request {
+        PlainCommand::Read { size, bytes } => answer_read(out, size, bytes.as_slice()),
+        PlainCommand::Group { size, view } => answer_call(
+            out,
+            group_in(size, view)
+                .map(Members)
+                .map_err(|fault| fault.refusal()),
+        ),
+        PlainCommand::Request {
             client,
             stamp,
             work,
-        } => answer_request(out, *client, *stamp, *work),
-        Command::Hash { bytes } => answer_hash(out, bytes.as_slice()),
-        Command::Machine { kind } => {
-            *machine = AnyMachine::new(*kind);
-            Ok(writeln!(out, "ok 0")?)
+        } => answer_call(
+            out,
+            Request::new(client, stamp, work)
+                .map(|_| DONE)
+                .map_err(|fault| fault.refusal()),
+        ),
+        PlainCommand::Hash { bytes } => {
+            let hash = fnv1a(bytes.as_slice());
+            writeln!(out, "{hash:08x}")
         }
-        Command::Do { work } => {
-            let outcome = machine.apply(*work);
-            Ok(writeln!(out, "{outcome}")?)
+        PlainCommand::Machine { fresh } => {
+            *machine = fresh;
+            writeln!(out, "{DONE}")
         }
-        _ => Ok(()),
+        PlainCommand::Do { work } => {
+            let outcome = machine.apply(work);
+            writeln!(out, "{outcome}")
+        }
     }
 }
 
-// Answers a command about the register; any other is left.
+// Answers a command about the register.
 pub(crate) fn answer_register<R: Register>(
     out: &mut String,
     register: &mut R,
-    command: &Command,
-) -> fmt::Result {
+    command: RegisterCommand,
+) -> Result<(), AllocError> {
     match command {
-        Command::Seal { replica, bytes } => match register.seal(*replica, bytes.as_slice()) {
-            Ok(()) => Ok(writeln!(out, "ok 0")?),
-            Err(fault) => {
-                let refusal = fault.refusal();
-                Ok(writeln!(out, "{refusal}")?)
-            }
-        },
-        Command::Sealed { replica, bytes } => answer_yes(
+        RegisterCommand::Seal { replica, bytes } => answer_call(
             out,
-            register.is_sealed(*replica, bytes.as_slice()),
+            register
+                .seal(replica, bytes.as_slice())
+                .map(|_| DONE)
+                .map_err(|fault| fault.refusal()),
         ),
-        Command::Fits { length } => answer_yes(out, register.has_room(*length as usize)),
-        _ => Ok(()),
+        RegisterCommand::Sealed { replica, bytes } => answer_yes(
+            out,
+            register.is_sealed(replica, bytes.as_slice()),
+        ),
+        RegisterCommand::Fits { length } => answer_yes(out, register.has_room(length as usize)),
     }
 }
 
-fn answer_yes(out: &mut String, yes: bool) -> fmt::Result {
+fn answer_yes(out: &mut String, yes: bool) -> Result<(), AllocError> {
     let word = if yes { "yes" } else { "no" };
-    Ok(writeln!(out, "{word}")?)
+    writeln!(out, "{word}")
 }
 
-fn answer_hash(out: &mut String, bytes: &[u8]) -> fmt::Result {
-    print(out, &fnv1a(bytes).to_be_bytes())?;
-    Ok(writeln!(out, "")?)
+// Answers whether a cluster may have the size, and hands on the plan for its register if it may.
+pub(crate) fn answer_cluster(
+    out: &mut String,
+    size: u8,
+    plan: RegisterPlan,
+) -> Result<Option<RegisterPlan>, AllocError> {
+    let cluster = ClusterConfig::new(size);
+    answer_call(out, cluster.map(|_| DONE).map_err(|fault| fault.refusal()))?;
+    Ok(cluster.ok().map(|_| plan))
 }
 
-// Answers whether a cluster may have the size.
-pub(crate) fn answer_cluster(out: &mut String, size: u8) -> Result<bool, fmt::Error> {
-    match ClusterConfig::new(size) {
-        Ok(_) => {
-            writeln!(out, "ok 0")?;
-            Ok(true)
-        }
-        Err(fault) => {
-            refused(out, fault)?;
-            Ok(false)
-        }
-    }
-}
-
-pub(crate) fn answer_error(out: &mut String, line: u64, reason: Reason) -> fmt::Result {
-    Ok(writeln!(out, "error {line}: {reason}")?)
-}
-
-fn refused(out: &mut String, fault: ReadFault) -> fmt::Result {
-    let refusal = fault.refusal();
-    Ok(writeln!(out, "{refusal}")?)
+pub(crate) fn answer_error(out: &mut String, line: u64, reason: Reason) -> Result<(), AllocError> {
+    writeln!(out, "error {line}: {reason}")
 }
 
 fn read_in(size: u8, bytes: &[u8]) -> Result<Message<'_>, ReadFault> {
     read(ClusterConfig::new(size)?, bytes)
 }
 
-pub(crate) fn answer_read(out: &mut String, size: u8, bytes: &[u8]) -> fmt::Result {
-    match read_in(size, bytes) {
-        Ok(message) => tell(out, &message),
-        Err(fault) => refused(out, fault),
-    }
+pub(crate) fn answer_read(out: &mut String, size: u8, bytes: &[u8]) -> Result<(), AllocError> {
+    answer_call(
+        out,
+        read_in(size, bytes)
+            .map(InWords)
+            .map_err(|fault| fault.refusal()),
+    )
 }
 
 fn group_in(size: u8, view: u32) -> Result<Group, ReadFault> {
     Group::of_view(ClusterConfig::new(size)?, view)
 }
 
-fn answer_group(out: &mut String, size: u8, view: u32) -> fmt::Result {
-    match group_in(size, view) {
-        Ok(group) => {
-            write!(out, "ok")?;
-            for member in group.members() {
-                let member = *member;
-                write!(out, " {member}")?;
-            }
-            Ok(writeln!(out, "")?)
-        }
-        Err(fault) => refused(out, fault),
-    }
-}
+// The members of a group.
+#[derive(Clone, Copy)]
+struct Members(Group);
 
-fn answer_request(out: &mut String, client: u16, stamp: u32, work: u64) -> fmt::Result {
-    match Request::new(client, stamp, work) {
-        Ok(_) => Ok(writeln!(out, "ok 0")?),
-        Err(fault) => refused(out, fault),
+impl fmt::Display for Members {
+    fn fmt<W: fmt::Write>(&self, f: &mut fmt::Formatter<W>) -> fmt::Result {
+        write!(f, "ok")?;
+        for member in self.0.members() {
+            write!(f, " {member}")?;
+        }
+        Ok(())
     }
 }
 
 // A message in words.
-fn tell(out: &mut String, message: &Message<'_>) -> fmt::Result {
-    let house = message.replica();
-    let view = message.view();
-    let name = match message {
-        Message::Prepare(_) => "PREPARE",
-        Message::Commit(_) => "COMMIT",
-        Message::Doubt(_) => "DOUBT",
-        Message::Report(_) => "REPORT",
-        Message::Closing(_) => "CLOSING",
-        Message::Reply(_) => "REPLY",
-    };
-    write!(out, "{name} house {house} view {view}")?;
-    match message {
-        Message::Prepare(vote) => tell_vote(out, vote)?,
-        Message::Commit(vote) => tell_vote(out, vote)?,
-        Message::Doubt(_) => {}
-        Message::Report(report) => tell_report(out, report)?,
-        Message::Closing(closing) => tell_closing(out, closing)?,
-        Message::Reply(reply) => tell_reply(out, reply)?,
+#[derive(Clone, Copy)]
+struct InWords<'a>(Message<'a>);
+
+impl fmt::Display for InWords<'_> {
+    fn fmt<W: fmt::Write>(&self, f: &mut fmt::Formatter<W>) -> fmt::Result {
+        let message = self.0;
+        let house = message.replica();
+        let view = message.view();
+        let name = match message {
+            Message::Prepare(_) => "PREPARE",
+            Message::Commit(_) => "COMMIT",
+            Message::Doubt(_) => "DOUBT",
+            Message::Report(_) => "REPORT",
+            Message::Closing(_) => "CLOSING",
+            Message::Reply(_) => "REPLY",
+        };
+        write!(f, "{name} house {house} view {view}")?;
+        match message {
+            Message::Prepare(vote) | Message::Commit(vote) => tell_request(
+                f,
+                vote.number(),
+                vote.request(),
+            ),
+            Message::Doubt(_) => Ok(()),
+            Message::Report(report) => tell_report(f, &report),
+            Message::Closing(closing) => {
+                let mask = closing.mask();
+                write!(f, " mask {mask}")
+            }
+            Message::Reply(reply) => {
+                tell_request(f, reply.number(), reply.request())?;
+                let outcome = reply.outcome();
+                write!(f, " outcome {outcome}")
+            }
+        }
     }
-    Ok(writeln!(out, "")?)
 }
 
-fn tell_request(out: &mut String, number: u32, request: Request) -> fmt::Result {
+fn tell_request<W: fmt::Write>(
+    f: &mut fmt::Formatter<W>,
+    number: u32,
+    request: Request,
+) -> fmt::Result {
     let client = request.client();
     let stamp = request.stamp();
-    write!(out, " number {number} client {client} stamp {stamp} work ")?;
-    print(out, &request.work().to_be_bytes())
+    let work = request.work();
+    write!(
+        f,
+        " number {number} client {client} stamp {stamp} work {work:016x}"
+    )
 }
 
-fn tell_vote(out: &mut String, vote: &Vote<'_>) -> fmt::Result {
-    tell_request(out, vote.number(), vote.request())
-}
-
-fn tell_report(out: &mut String, report: &Report<'_>) -> fmt::Result {
+fn tell_report<W: fmt::Write>(f: &mut fmt::Formatter<W>, report: &Report<'_>) -> fmt::Result {
     let rows = report.len();
-    write!(out, " rows {rows}")?;
+    write!(f, " rows {rows}")?;
     for row in 0..rows {
         if let Some(entry) = report.entry(row) {
+            let number = row.saturating_add(1);
             let view = entry.view;
             let client = entry.request.client();
             let stamp = entry.request.stamp();
-            let number = row.saturating_add(1);
-            write!(out, " {number}:{view}:{client}:{stamp}:")?;
-            print(out, &entry.request.work().to_be_bytes())?;
+            let work = entry.request.work();
+            write!(f, " {number}:{view}:{client}:{stamp}:{work:016x}")?;
         }
     }
     Ok(())
-}
-
-fn tell_closing(out: &mut String, closing: &Closing<'_>) -> fmt::Result {
-    let mask = closing.mask();
-    Ok(write!(out, " mask {mask}")?)
-}
-
-fn tell_reply(out: &mut String, reply: &Reply<'_>) -> fmt::Result {
-    tell_request(out, reply.number(), reply.request())?;
-    let outcome = reply.outcome();
-    Ok(write!(out, " outcome {outcome}")?)
 }

@@ -1,30 +1,28 @@
 // A machine of either maker.
-use crate::command::MachineKind;
 use machines::ledger::Ledger;
 use machines::machine::Machine;
 use machines::press_queue::PressQueue;
 
-// Both machines, and the kind of the one in use.
+// The makers mean two machines, and an `impl Machine` has one meaning, so this has none.
 #[derive(Drop)]
-pub(crate) struct AnyMachine {
-    kind: MachineKind,
-    ledger: Ledger,
-    queue: PressQueue,
+pub(crate) enum AnyMachine {
+    Ledger(Ledger),
+    Press(PressQueue),
 }
 
 impl AnyMachine {
-    pub(crate) fn new(kind: MachineKind) -> AnyMachine {
-        AnyMachine {
-            kind,
-            ledger: Ledger::new(),
-            queue: PressQueue::new(),
-        }
+    pub(crate) fn ledger() -> AnyMachine {
+        AnyMachine::Ledger(Ledger::new())
+    }
+
+    pub(crate) fn press() -> AnyMachine {
+        AnyMachine::Press(PressQueue::new())
     }
 
     pub(crate) fn apply(&mut self, work: u64) -> u64 {
-        match self.kind {
-            MachineKind::Ledger => self.ledger.apply(work),
-            MachineKind::Press => self.queue.apply(work),
+        match self {
+            AnyMachine::Ledger(ledger) => ledger.apply(work),
+            AnyMachine::Press(queue) => queue.apply(work),
         }
     }
 }

@@ -1,5 +1,5 @@
 // The built-in story: a request becomes a message and is read back, and damaged messages are refused.
-use crate::answer::answer_read;
+use crate::answer::{answer_call, answer_read};
 use groups::group::Group;
 use machines::ledger::Ledger;
 use machines::ledger_work::{buy, print as print_copies};
@@ -18,6 +18,9 @@ use wire::write::write_prepare;
 
 const SIZE: u8 = 3;
 
+// How long a PREPARE is.
+const LENGTH: usize = 27;
+
 // The parts of a PREPARE: how many bytes each has, and what they say here.
 const PARTS: [(usize, &str); 9] = [
     (1, "kind 1: a PREPARE"),
@@ -32,13 +35,9 @@ const PARTS: [(usize, &str); 9] = [
 ];
 
 pub(crate) fn demo(out: &mut String) -> fmt::Result {
-    let Ok(config) = ClusterConfig::new(SIZE) else {
-        return Err(fmt::Error);
-    };
-    let Ok(request) = Request::new(1, 1, buy(5, 40)) else {
-        return Err(fmt::Error);
-    };
-    let mut message = [0u8; 27];
+    let config = ClusterConfig::new(SIZE).map_err(|_| fmt::Error)?;
+    let request = Request::new(1, 1, buy(5, 40)).map_err(|_| fmt::Error)?;
+    let mut message = [0u8; LENGTH];
     let Ok(Some(length)) = write_prepare(config, 0, 0, 1, request, &mut message) else {
         return Err(fmt::Error);
     };
@@ -66,10 +65,7 @@ pub(crate) fn demo(out: &mut String) -> fmt::Result {
 fn tell_parts(out: &mut String, message: &[u8]) -> fmt::Result {
     let mut rest = message;
     for (length, meaning) in PARTS {
-        let Some((part, after)) = rest.split_at_checked(length) else {
-            return Err(fmt::Error);
-        };
-        rest = after;
+        let part = rest.split_off(..length).ok_or(fmt::Error)?;
         write!(out, "  ")?;
         print(out, part)?;
         for _ in length..8 {
@@ -95,11 +91,24 @@ fn tell_group(out: &mut String, config: ClusterConfig) -> fmt::Result {
 
 fn tell_read(out: &mut String, what: &str, bytes: &[u8]) -> fmt::Result {
     write!(out, "  {what}: ")?;
-    answer_read(out, SIZE, bytes)
+    Ok(answer_read(out, SIZE, bytes)?)
+}
+
+fn tell_damaged<D: FnOnce(&mut [u8; LENGTH])>(
+    out: &mut String,
+    message: [u8; LENGTH],
+    what: &str,
+    damage: D,
+) -> fmt::Result
+    requires { D.IsAlwaysCallable damage }
+{
+    let mut damaged = message;
+    damage(&mut damaged);
+    tell_read(out, what, &damaged)
 }
 
 // A refusal says why, by its number, who refused, and where.
-fn tell_damage(out: &mut String, message: [u8; 27]) -> fmt::Result {
+fn tell_damage(out: &mut String, message: [u8; LENGTH]) -> fmt::Result {
     writeln!(
         out,
         "\nA damaged message is refused. Refusal 1 is a wrong length, with the length that came;"
@@ -110,23 +119,25 @@ fn tell_damage(out: &mut String, message: [u8; 27]) -> fmt::Result {
     )?;
     tell_read(out, "the first 26 bytes", &message[0..26])?;
     tell_read(out, "no bytes at all", &[])?;
-    let mut kind = message;
-    kind[0] = 7;
-    tell_read(out, "kind 7 (there are 1 to 6)", &kind)?;
-    let mut number = message;
-    number[10] = 97;
-    tell_read(out, "number 97 (there are 1 to 96)", &number)?;
-    let mut house = message;
-    house[1] = 3;
-    tell_read(out, "house 3 (there are 0 to 2)", &house)?;
-    let mut view = message;
-    view[3] = 0x0f;
-    view[4] = 0x42;
-    view[5] = 0x40;
-    tell_read(out, "view 1000000 (the last is 999999)", &view)?;
-    let mut client = message;
-    client[14] = 0;
-    tell_read(out, "client 0 (clients count from 1)", &client)
+    tell_damaged(out, message, "kind 7 (there are 1 to 6)", |m| m[0] = 7)?;
+    tell_damaged(
+        out,
+        message,
+        "number 97 (there are 1 to 96)",
+        |m| m[10] = 97,
+    )?;
+    tell_damaged(out, message, "house 3 (there are 0 to 2)", |m| m[1] = 3)?;
+    tell_damaged(out, message, "view 1000000 (the last is 999999)", |m| {
+        m[3] = 0x0f;
+        m[4] = 0x42;
+        m[5] = 0x40;
+    })?;
+    tell_damaged(
+        out,
+        message,
+        "client 0 (clients count from 1)",
+        |m| m[14] = 0,
+    )
 }
 
 fn tell_seal<R: Register>(
@@ -136,7 +147,7 @@ fn tell_seal<R: Register>(
     message: &[u8],
 ) -> fmt::Result {
     write!(out, "  {name}: sealing it: ")?;
-    answer_register(out, register, 0, message)?;
+    answer_seal(out, register, 0, message)?;
     let known = register.is_sealed(0, message);
     let other = register.is_sealed(1, message);
     Ok(writeln!(
@@ -145,23 +156,19 @@ fn tell_seal<R: Register>(
     )?)
 }
 
-fn answer_register<R: Register>(
+fn answer_seal<R: Register>(
     out: &mut String,
     register: &mut R,
     replica: u8,
     message: &[u8],
 ) -> fmt::Result {
-    match register.seal(replica, message) {
-        Ok(()) => Ok(writeln!(out, "ok")?),
-        Err(fault) => {
-            let refusal = fault.refusal();
-            Ok(writeln!(out, "{refusal}")?)
-        }
-    }
+    let outcome = register.seal(replica, message);
+    answer_call(out, outcome.map(|_| "ok").map_err(|fault| fault.refusal()))?;
+    Ok(())
 }
 
 // Both registers, and one that is full.
-fn tell_registers(out: &mut String, message: [u8; 27]) -> fmt::Result {
+fn tell_registers(out: &mut String, message: [u8; LENGTH]) -> fmt::Result {
     writeln!(
         out,
         "\nHouse 0 seals its message, so that the others can believe it. There are two registers:"
@@ -184,7 +191,7 @@ fn tell_registers(out: &mut String, message: [u8; 27]) -> fmt::Result {
     let mut journal = Journal::new(&mut small);
     for house in 0..3u8 {
         write!(out, "  sealed by house {house}: ")?;
-        answer_register(out, &mut journal, house, &message)?;
+        answer_seal(out, &mut journal, house, &message)?;
     }
     Ok(())
 }

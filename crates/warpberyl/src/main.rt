@@ -9,14 +9,15 @@ mod options;
 
 use answer::{answer, answer_cluster, answer_error, answer_register};
 use any_machine::AnyMachine;
-use command::{Command, MachineKind, Reason, RegisterPlan, parse};
+use command::{Command, Reason, RegisterPlan, parse};
 use demo::demo;
-use options::{Job, asked};
-use scenario::lines::first_line;
+use options::{Job, Misuse, asked};
+use scenario::lines::Lines;
 use seals::index::IndexedJournal;
 use seals::journal::Journal;
 use seals::register::Register;
-use std::alloc::Global;
+use std::alloc::{AllocError, Global};
+use std::error::Error;
 use std::io::Read;
 use std::process::ExitCode;
 use std::{env, fmt, fs, io};
@@ -58,75 +59,109 @@ A refusal is `refused NUMBER LAYER PLACE`.
 // How many bytes of answers are kept before they are written.
 const FULL: usize = 65536;
 
-// The process ends with status 1.
-#[derive(Drop)]
-struct Failed;
+// Why the program did not do what it was asked for.
+#[derive(Debug, Drop)]
+enum Failure<'a> {
+    CommandLine,
+    Misuse(Misuse<'a>),
+    Text(&'a str, io::Error),
+    Answers(io::Error),
+    Demo,
+    Output,
+}
 
-// A text as it is played: what is left of it, the line's number, the answers not yet written.
+impl fmt::Display for Failure<'_> {
+    fn fmt<W: fmt::Write>(&self, f: &mut fmt::Formatter<W>) -> fmt::Result {
+        match self {
+            Failure::CommandLine => write!(f, "cannot read the command line"),
+            Failure::Misuse(misuse) => write!(f, "{misuse}"),
+            Failure::Text(name, error) => write!(f, "cannot read {name}: {error}"),
+            Failure::Answers(error) => write!(f, "cannot write the answers: {error}"),
+            Failure::Demo => write!(f, "cannot play the demo"),
+            Failure::Output => write!(f, "cannot write to the standard output"),
+        }
+    }
+}
+
+impl Error for Failure<'_> {}
+
+impl<'a> From<Misuse<'a>> for Failure<'a> {
+    fn from(misuse: Misuse<'a>) -> Failure<'a> {
+        Failure::Misuse(misuse)
+    }
+}
+
+// A play so far: the number of the line, whether each could be understood, the answers not yet written.
 #[derive(Drop)]
-struct Stage<'a> {
-    rest: &'a [u8],
+struct Stage {
     number: u64,
     understood: bool,
     machine: AnyMachine,
     out: String,
 }
 
-fn no_memory() -> io::Error {
-    io::Error::from(io::ErrorKind::OutOfMemory)
-}
-
-// Answers a line; a cluster that is to replace the present one is handed on.
-fn answer_line<R: Register>(
-    heap: Global,
-    stage: &mut Stage<'_>,
-    register: &mut R,
-    ready: bool,
-    line: &[u8],
-) -> Result<Option<RegisterPlan>, fmt::Error> {
-    let reason = match parse(heap, line) {
-        Ok(None) => return Ok(None),
-        Ok(Some(Command::Cluster { size, register })) => {
-            let made = answer_cluster(&mut stage.out, size)?;
-            return Ok(if made { Some(register) } else { None });
+impl Stage {
+    fn new(heap: Global) -> Stage {
+        Stage {
+            number: 0,
+            understood: true,
+            machine: AnyMachine::ledger(),
+            out: String::new(heap),
         }
-        Ok(Some(command)) => {
-            if ready || !command.needs_cluster() {
-                answer(&mut stage.out, &mut stage.machine, &command)?;
-                answer_register(&mut stage.out, register, &command)?;
+    }
+
+    // Answers a line; the plan for a new cluster is handed on.
+    fn play_line<R: Register>(
+        &mut self,
+        heap: Global,
+        register: Option<&mut R>,
+        line: &[u8],
+    ) -> Result<Option<RegisterPlan>, AllocError> {
+        self.number = self.number.saturating_add(1);
+        let reason = match (parse(heap, line), register) {
+            (Ok(None), _) => return Ok(None),
+            (Ok(Some(Command::Cluster { size, register })), _) => return answer_cluster(
+                &mut self.out,
+                size,
+                register,
+            ),
+            (Ok(Some(Command::Plain(command))), _) => {
+                answer(&mut self.out, &mut self.machine, command)?;
                 return Ok(None);
             }
-            Reason::NoCluster
-        }
-        Err(reason) => reason,
-    };
-    stage.understood = false;
-    answer_error(&mut stage.out, stage.number, reason)?;
-    Ok(None)
+            (Ok(Some(Command::Register(command))), Some(register)) => {
+                answer_register(&mut self.out, register, command)?;
+                return Ok(None);
+            }
+            (Ok(Some(Command::Register(_))), None) => Reason::NoCluster,
+            (Err(reason), _) => reason,
+        };
+        self.understood = false;
+        answer_error(&mut self.out, self.number, reason)?;
+        Ok(None)
+    }
+
+    fn write_out(&mut self, rt: &HostRuntime) -> io::Result<()> {
+        rt.write_all(self.out.as_bytes())?;
+        self.out.clear();
+        Ok(())
+    }
 }
 
-// Plays on with a register until another cluster is made or the text ends.
+// Plays on with a register, if there is one, until a new cluster is made or the text ends.
 fn play_on<R: Register>(
     rt: &HostRuntime,
-    stage: &mut Stage<'_>,
-    register: &mut R,
-    ready: bool,
+    lines: &mut Lines<'_>,
+    stage: &mut Stage,
+    mut register: Option<&mut R>,
 ) -> io::Result<Option<RegisterPlan>> {
-    for _ in 0..u64::MAX {
-        if stage.rest.is_empty() {
-            break;
-        }
-        let (line, after) = first_line(stage.rest);
-        stage.rest = after;
-        stage.number = stage.number.saturating_add(1);
-        match answer_line(rt.alloc(), stage, register, ready, line) {
-            Ok(None) => {}
-            Ok(Some(plan)) => return Ok(Some(plan)),
-            Err(_) => return Err(no_memory()),
+    for line in lines.by_ref() {
+        let plan = stage.play_line(rt.alloc(), register.as_deref_mut(), line)?;
+        if plan.is_some() {
+            return Ok(plan);
         }
         if stage.out.len() >= FULL {
-            rt.write_all(stage.out.as_bytes())?;
-            stage.out.clear();
+            stage.write_out(rt)?;
         }
     }
     Ok(None)
@@ -135,48 +170,35 @@ fn play_on<R: Register>(
 // Plays on with a new register.
 fn play_with(
     rt: &HostRuntime,
-    stage: &mut Stage<'_>,
+    lines: &mut Lines<'_>,
+    stage: &mut Stage,
     plan: RegisterPlan,
 ) -> io::Result<Option<RegisterPlan>> {
     match plan {
         RegisterPlan::Journal { space } => {
             let mut memory = vec![in rt.alloc(); 0u8; space]?;
             let mut register = Journal::new(memory.as_mut_slice());
-            play_on(rt, stage, &mut register, true)
+            play_on(rt, lines, stage, Some(&mut register))
         }
         RegisterPlan::Index { space, slots } => {
             let mut memory = vec![in rt.alloc(); 0u8; space]?;
             let mut words = vec![in rt.alloc(); 0u32; slots]?;
             let mut register = IndexedJournal::new(memory.as_mut_slice(), words.as_mut_slice());
-            play_on(rt, stage, &mut register, true)
+            play_on(rt, lines, stage, Some(&mut register))
         }
     }
 }
 
 // Plays a text, and says whether every line could be understood.
 fn play(rt: &HostRuntime, text: &[u8]) -> io::Result<bool> {
-    let mut stage = Stage {
-        rest: text,
-        number: 0,
-        understood: true,
-        machine: AnyMachine::new(MachineKind::Ledger),
-        out: String::new(rt.alloc()),
-    };
-    let mut none = [0u8; 0];
-    let mut plan = play_on(rt, &mut stage, &mut Journal::new(&mut none), false)?;
-    for _ in 0..u64::MAX {
-        let Some(next) = plan else {
-            break;
-        };
-        plan = play_with(rt, &mut stage, next)?;
+    let mut lines = Lines::new(text);
+    let mut stage = Stage::new(rt.alloc());
+    let mut next = play_on::<Journal<'_>>(rt, &mut lines, &mut stage, None)?;
+    while let Some(plan) = next {
+        next = play_with(rt, &mut lines, &mut stage, plan)?;
     }
-    rt.write_all(stage.out.as_bytes())?;
+    stage.write_out(rt)?;
     Ok(stage.understood)
-}
-
-fn complain(rt: &HostRuntime, what: &str, word: &str) -> Failed {
-    let _ = eprintln!(rt; "warpberyl: {what} {word}");
-    Failed
 }
 
 fn read_text(rt: &HostRuntime, file: Option<&str>) -> io::Result<Vec<u8>> {
@@ -190,64 +212,52 @@ fn read_text(rt: &HostRuntime, file: Option<&str>) -> io::Result<Vec<u8>> {
     }
 }
 
-fn play_all(rt: &HostRuntime, keep_going: bool, file: Option<&str>) -> Result<(), Failed> {
-    let text = match read_text(rt, file) {
-        Ok(text) => text,
-        Err(e) => {
-            let name = file.unwrap_or("the standard input");
-            let _ = eprintln!(rt; "warpberyl: cannot read {name}: {e}");
-            return Err(Failed);
-        }
-    };
-    match play(rt, text.as_slice()) {
-        Ok(understood) => {
-            if understood || keep_going {
-                Ok(())
-            } else {
-                Err(Failed)
-            }
-        }
-        Err(e) => {
-            let _ = eprintln!(rt; "warpberyl: cannot write the answers: {e}");
-            Err(Failed)
-        }
-    }
+fn play_all<'a>(
+    rt: &HostRuntime,
+    keep_going: bool,
+    file: Option<&'a str>,
+) -> Result<ExitCode, Failure<'a>> {
+    let name = file.unwrap_or("the standard input");
+    let text = read_text(rt, file).map_err(|e| Failure::Text(name, e))?;
+    let understood = play(rt, text.as_slice()).map_err(Failure::Answers)?;
+    Ok(if understood || keep_going {
+        ExitCode::SUCCESS
+    } else {
+        ExitCode::FAILURE
+    })
 }
 
-fn tell_demo(rt: &HostRuntime) -> Result<(), Failed> {
+fn tell_demo(rt: &HostRuntime) -> Result<ExitCode, Failure<'static>> {
     let mut out = String::new(rt.alloc());
-    match demo(&mut out) {
-        Ok(()) => tell(rt, out.as_str()),
-        Err(_) => Err(complain(rt, "cannot play", "the demo")),
-    }
+    demo(&mut out).map_err(|_| Failure::Demo)?;
+    tell(rt, out.as_str())
 }
 
-fn tell(rt: &HostRuntime, text: &str) -> Result<(), Failed> {
-    match rt.write_all(text.as_bytes()) {
-        Ok(()) => Ok(()),
-        Err(_) => Err(complain(rt, "cannot write to", "the standard output")),
-    }
+fn tell(rt: &HostRuntime, text: &str) -> Result<ExitCode, Failure<'static>> {
+    rt.write_all(text.as_bytes()).map_err(|_| Failure::Output)?;
+    Ok(ExitCode::SUCCESS)
 }
 
 fn arguments(rt: &HostRuntime) -> io::Result<Vec<String>> {
     Ok(env::args(rt)?.skip(1).collect(rt.alloc())?)
 }
 
-fn run(rt: &HostRuntime) -> Result<(), Failed> {
-    let Ok(words) = arguments(rt) else {
-        return Err(complain(rt, "cannot read", "the command line"));
-    };
-    match asked(words.as_slice()) {
-        Ok(Job::Help) => tell(rt, HELP),
-        Ok(Job::Demo) => tell_demo(rt),
-        Ok(Job::Play { keep_going, file }) => play_all(rt, keep_going, file),
-        Err(misuse) => Err(complain(rt, misuse.why, misuse.word)),
+fn run<'a>(rt: &HostRuntime, words: &'a [String]) -> Result<ExitCode, Failure<'a>> {
+    match asked(words)? {
+        Job::Help => tell(rt, HELP),
+        Job::Demo => tell_demo(rt),
+        Job::Play { keep_going, file } => play_all(rt, keep_going, file),
     }
 }
 
+fn complain(rt: &HostRuntime, failure: &Failure<'_>) -> ExitCode {
+    let _ = eprintln!(rt; "warpberyl: {failure}");
+    ExitCode::FAILURE
+}
+
 fn main(rt: HostRuntime) -> ExitCode {
-    match run(&rt) {
-        Ok(()) => ExitCode::SUCCESS,
-        Err(Failed) => ExitCode::FAILURE,
-    }
+    let Ok(words) = arguments(&rt) else {
+        return complain(&rt, &Failure::CommandLine);
+    };
+    run(&rt, words.as_slice()).unwrap_or_else(|failure| complain(&rt, &failure))
 }

@@ -1,4 +1,6 @@
 // What the words behind the program's name ask for.
+use std::error::Error;
+use std::fmt;
 
 #[derive(Drop)]
 pub(crate) enum Job<'a> {
@@ -11,11 +13,20 @@ pub(crate) enum Job<'a> {
     },
 }
 
-// Why there is nothing to do, and the word that is at fault.
-#[derive(Drop)]
-pub(crate) struct Misuse<'a> {
-    pub(crate) why: &'static str,
-    pub(crate) word: &'a str,
+// The word at which there is nothing to do.
+#[derive(Clone, Copy, Debug)]
+pub(crate) enum Misuse<'a> {
+    UnknownOption(&'a str),
+    UnexpectedWord(&'a str),
+}
+
+impl fmt::Display for Misuse<'_> {
+    fn fmt<W: fmt::Write>(&self, f: &mut fmt::Formatter<W>) -> fmt::Result {
+        match self {
+            Misuse::UnknownOption(word) => write!(f, "unknown option {word}"),
+            Misuse::UnexpectedWord(word) => write!(f, "unexpected word {word}"),
+        }
+    }
 }
 
 fn play(keep_going: bool, file: Option<&str>) -> Job<'_> {
@@ -27,10 +38,7 @@ fn one_word(word: &str) -> Result<Job<'_>, Misuse<'_>> {
         "--help" => Ok(Job::Help),
         "--demo" => Ok(Job::Demo),
         "--keep-going" => Ok(play(true, None)),
-        _ if word.starts_with('-') => Err(Misuse {
-            why: "unknown option",
-            word,
-        }),
+        _ if word.starts_with('-') => Err(Misuse::UnknownOption(word)),
         _ => Ok(play(false, Some(word))),
     }
 }
@@ -39,10 +47,7 @@ fn one_word(word: &str) -> Result<Job<'_>, Misuse<'_>> {
 fn two_words<'a>(first: &'a str, last: &'a str) -> Result<Job<'a>, Misuse<'a>> {
     one_word(first)?;
     if first != "--keep-going" || last.starts_with('-') {
-        return Err(Misuse {
-            why: "unexpected word",
-            word: last,
-        });
+        return Err(Misuse::UnexpectedWord(last));
     }
     Ok(play(true, Some(last)))
 }
@@ -52,9 +57,6 @@ pub(crate) fn asked(words: &[String]) -> Result<Job<'_>, Misuse<'_>> {
         [] => Ok(play(false, None)),
         [word] => one_word(word.as_str()),
         [first, last] => two_words(first.as_str(), last.as_str()),
-        [_, _, word, ..] => Err(Misuse {
-            why: "unexpected word",
-            word: word.as_str(),
-        }),
+        [_, _, word, ..] => Err(Misuse::UnexpectedWord(word.as_str())),
     }
 }

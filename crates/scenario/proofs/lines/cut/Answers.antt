@@ -1,7 +1,11 @@
-use Rattle.std.proofs.Common.{arith}
-use Rattle.std.proofs.lemmas.List.Sums.{prefix_len-le-length}
-use Rattle.scenario.specs.Classes.{of_class}
+use Rattle.std.proofs.Common.{not, rules, sym}
+use Rattle.std.proofs.lemmas.Iterator.{YieldsList-from_slice}
+use Rattle.std.proofs.lemmas.Iterator.Search.{position_from_yields_List}
+use Rattle.scenario.proofs.Fronts.{front_len_is}
 use Rattle.scenario.proofs.lines.cut.Goals as goal
 
-pub split_at-requires : goal.split_at-requires
-split_at-requires c = omega (arith, prefix_len-le-length (of_class c.args.class) c.args.text.now)
+pub returns-clause-parts : goal.returns-clause-parts
+returns-clause-parts g c = λ p says.
+    let len = front_len_is p c.args.text.now c.position-end.result c.unwrap_or.result c.unwrap_or.ensures
+    (position_from_yields_List (λ b. not (p b)) _ _ c.position-end.result c.position-end.ensures.ran (YieldsList-from_slice c.args.text.now cc) (λ x r q k. search (rules, says))) in
+    rw (sym len) (c.split_at.ensures.front, c.split_at.ensures.back)
