@@ -18,13 +18,16 @@ use wire::request::Request;
 const DONE: &str = "ok 0";
 
 // A call's outcome on a line: what it gives, or the refusal.
-pub(crate) fn answer_call<T: fmt::Display + Drop>(
+pub(crate) fn answer_call<T: fmt::Display + Drop, E: Into<Refusal>>(
     out: &mut String,
-    outcome: Result<T, Refusal>,
+    outcome: Result<T, E>,
 ) -> Result<(), AllocError> {
     match outcome {
         Ok(value) => writeln!(out, "{value}"),
-        Err(refusal) => writeln!(out, "{refusal}"),
+        Err(fault) => {
+            let refusal: Refusal = fault.into();
+            writeln!(out, "{refusal}")
+        }
     }
 }
 
@@ -36,22 +39,12 @@ pub(crate) fn answer(
 ) -> Result<(), AllocError> {
     match command {
         PlainCommand::Read { size, bytes } => answer_read(out, size, bytes.as_slice()),
-        PlainCommand::Group { size, view } => answer_call(
-            out,
-            group_in(size, view)
-                .map(Members)
-                .map_err(|fault| fault.refusal()),
-        ),
+        PlainCommand::Group { size, view } => answer_call(out, group_in(size, view).map(Members)),
         PlainCommand::Request {
             client,
             stamp,
             work,
-        } => answer_call(
-            out,
-            Request::new(client, stamp, work)
-                .map(|_| DONE)
-                .map_err(|fault| fault.refusal()),
-        ),
+        } => answer_call(out, Request::new(client, stamp, work).map(|_| DONE)),
         PlainCommand::Hash { bytes } => {
             let hash = fnv1a(bytes.as_slice());
             writeln!(out, "{hash:08x}")
@@ -76,10 +69,7 @@ pub(crate) fn answer_register<R: Register>(
     match command {
         RegisterCommand::Seal { replica, bytes } => answer_call(
             out,
-            register
-                .seal(replica, bytes.as_slice())
-                .map(|_| DONE)
-                .map_err(|fault| fault.refusal()),
+            register.seal(replica, bytes.as_slice()).map(|_| DONE),
         ),
         RegisterCommand::Sealed { replica, bytes } => answer_yes(
             out,
@@ -101,7 +91,7 @@ pub(crate) fn answer_cluster(
     plan: RegisterPlan,
 ) -> Result<Option<RegisterPlan>, AllocError> {
     let cluster = ClusterConfig::new(size);
-    answer_call(out, cluster.map(|_| DONE).map_err(|fault| fault.refusal()))?;
+    answer_call(out, cluster.map(|_| DONE))?;
     Ok(cluster.ok().map(|_| plan))
 }
 
@@ -114,12 +104,7 @@ fn read_in(size: u8, bytes: &[u8]) -> Result<Message<'_>, ReadFault> {
 }
 
 pub(crate) fn answer_read(out: &mut String, size: u8, bytes: &[u8]) -> Result<(), AllocError> {
-    answer_call(
-        out,
-        read_in(size, bytes)
-            .map(InWords)
-            .map_err(|fault| fault.refusal()),
-    )
+    answer_call(out, read_in(size, bytes).map(InWords))
 }
 
 fn group_in(size: u8, view: u32) -> Result<Group, ReadFault> {
@@ -196,15 +181,12 @@ fn tell_request<W: fmt::Write>(
 fn tell_report<W: fmt::Write>(f: &mut fmt::Formatter<W>, report: &Report<'_>) -> fmt::Result {
     let rows = report.len();
     write!(f, " rows {rows}")?;
-    for row in 0..rows {
-        if let Some(entry) = report.entry(row) {
-            let number = row.saturating_add(1);
-            let view = entry.view;
-            let client = entry.request.client();
-            let stamp = entry.request.stamp();
-            let work = entry.request.work();
-            write!(f, " {number}:{view}:{client}:{stamp}:{work:016x}")?;
-        }
+    for (number, entry) in (1..=rows).zip(report.entries()) {
+        let view = entry.view;
+        let client = entry.request.client();
+        let stamp = entry.request.stamp();
+        let work = entry.request.work();
+        write!(f, " {number}:{view}:{client}:{stamp}:{work:016x}")?;
     }
     Ok(())
 }

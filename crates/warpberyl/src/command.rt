@@ -1,6 +1,7 @@
 // The commands, and the command that a line says.
 use crate::any_machine::AnyMachine;
-use machines::{ledger_work, queue_work};
+use machines::ledger_work::LedgerWork;
+use machines::queue_work::QueueWork;
 use scenario::lines::Words;
 use scenario::words::{bytes, decimal, hexadecimal_u64};
 use std::alloc::{AllocError, Global};
@@ -119,11 +120,21 @@ impl<'a> Arguments<'a> {
     fn work(&mut self) -> Result<u64, Reason> {
         let word = self.word()?;
         match word {
-            b"buy" => Ok(ledger_work::buy(self.number(u8::MAX)?, self.number(u32::MAX)?)),
-            b"print" => Ok(ledger_work::print(self.number(u8::MAX)?, self.number(u32::MAX)?)),
-            b"ask" => Ok(ledger_work::ask(self.number(u8::MAX)?)),
-            b"put" => Ok(queue_work::put(self.number(u32::MAX)?)),
-            b"take" => Ok(queue_work::take()),
+            b"buy" => Ok(u64::from(LedgerWork::Buy {
+                piece: self.number(u8::MAX)?,
+                copies: self.number(u32::MAX)?,
+            })),
+            b"print" => Ok(u64::from(LedgerWork::Print {
+                piece: self.number(u8::MAX)?,
+                copies: self.number(u32::MAX)?,
+            })),
+            b"ask" => Ok(u64::from(LedgerWork::Ask {
+                piece: self.number(u8::MAX)?,
+            })),
+            b"put" => Ok(u64::from(QueueWork::Put {
+                job: self.number(u32::MAX)?,
+            })),
+            b"take" => Ok(u64::from(QueueWork::Take)),
             _ => hexadecimal_u64(word).ok_or(Reason::Work),
         }
     }

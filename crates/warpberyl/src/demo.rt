@@ -2,10 +2,10 @@
 use crate::answer::{answer_call, answer_read};
 use groups::group::Group;
 use machines::ledger::Ledger;
-use machines::ledger_work::{buy, print as print_copies};
+use machines::ledger_work::LedgerWork;
 use machines::machine::Machine;
 use machines::press_queue::PressQueue;
-use machines::queue_work::{put, take};
+use machines::queue_work::QueueWork;
 use scenario::words::print;
 use seals::index::IndexedJournal;
 use seals::journal::Journal;
@@ -13,8 +13,8 @@ use seals::register::Register;
 use std::fmt;
 use std::fmt::Write;
 use wire::config::ClusterConfig;
+use wire::draft::{Content, Draft};
 use wire::request::Request;
-use wire::write::write_prepare;
 
 const SIZE: u8 = 3;
 
@@ -36,9 +36,18 @@ const PARTS: [(usize, &str); 9] = [
 
 pub(crate) fn demo(out: &mut String) -> fmt::Result {
     let config = ClusterConfig::new(SIZE).map_err(|_| fmt::Error)?;
-    let request = Request::new(1, 1, buy(5, 40)).map_err(|_| fmt::Error)?;
+    let work = LedgerWork::Buy {
+        piece: 5,
+        copies: 40,
+    };
+    let request = Request::new(1, 1, work.into()).map_err(|_| fmt::Error)?;
+    let draft = Draft {
+        replica: 0,
+        view: 0,
+        content: Content::Prepare { number: 1, request },
+    };
     let mut message = [0u8; LENGTH];
-    let Ok(Some(length)) = write_prepare(config, 0, 0, 1, request, &mut message) else {
+    let Ok(Some(length)) = draft.write(config, &mut message) else {
         return Err(fmt::Error);
     };
     writeln!(
@@ -163,7 +172,7 @@ fn answer_seal<R: Register>(
     message: &[u8],
 ) -> fmt::Result {
     let outcome = register.seal(replica, message);
-    answer_call(out, outcome.map(|_| "ok").map_err(|fault| fault.refusal()))?;
+    answer_call(out, outcome.map(|_| "ok"))?;
     Ok(())
 }
 
@@ -196,8 +205,13 @@ fn tell_registers(out: &mut String, message: [u8; LENGTH]) -> fmt::Result {
     Ok(())
 }
 
-fn tell_work<M: Machine>(out: &mut String, machine: &mut M, what: &str, work: u64) -> fmt::Result {
-    let outcome = machine.apply(work);
+fn tell_work<M: Machine, W: Into<u64>>(
+    out: &mut String,
+    machine: &mut M,
+    what: &str,
+    work: W,
+) -> fmt::Result {
+    let outcome = machine.apply(work.into());
     Ok(writeln!(out, "  {what}: {outcome}")?)
 }
 
@@ -207,25 +221,25 @@ fn tell_machines(out: &mut String) -> fmt::Result {
         out,
         "\nA day at the ledger; a refused work answers 1099511627776 and its reason:"
     )?;
+    let piece = 5;
     let mut ledger = Ledger::new();
-    tell_work(out, &mut ledger, "buy 40 of piece 5, then left", buy(5, 40))?;
-    tell_work(
-        out,
-        &mut ledger,
-        "print 45, too many (reason 3)",
-        print_copies(5, 45),
-    )?;
-    tell_work(out, &mut ledger, "print 12, then left", print_copies(5, 12))?;
+    let buy = LedgerWork::Buy { piece, copies: 40 };
+    tell_work(out, &mut ledger, "buy 40 of piece 5, then left", buy)?;
+    let too_many = LedgerWork::Print { piece, copies: 45 };
+    tell_work(out, &mut ledger, "print 45, too many (reason 3)", too_many)?;
+    let print = LedgerWork::Print { piece, copies: 12 };
+    tell_work(out, &mut ledger, "print 12, then left", print)?;
     writeln!(out, "\nAnd at the press queue:")?;
     let mut queue = PressQueue::new();
+    let put = |job: u32| QueueWork::Put { job };
     tell_work(out, &mut queue, "put job 7, then waiting", put(7))?;
     tell_work(out, &mut queue, "put job 8, then waiting", put(8))?;
-    tell_work(out, &mut queue, "take the oldest", take())?;
-    tell_work(out, &mut queue, "take the next", take())?;
+    tell_work(out, &mut queue, "take the oldest", QueueWork::Take)?;
+    tell_work(out, &mut queue, "take the next", QueueWork::Take)?;
     tell_work(
         out,
         &mut queue,
         "take from the empty queue (reason 5)",
-        take(),
+        QueueWork::Take,
     )
 }
