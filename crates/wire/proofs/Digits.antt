@@ -1,5 +1,6 @@
 -- Numbers and their bytes are inverse: what is written of a number reads as it, and bytes are those of the number that they read as.
 use Rattle.std.proofs.Common.{◌≡◌, ℕ, zero, suc, ◌+◌, ◌*◌, ◌/◌, ◌%◌, ◌^◌, ◌<◌, ◌≤◌, List, ◌∷◌, ◌++◌, length, get_or, drop, sym, refl, ap, ◌∙◌, add-zero, mod-lt, mod-eq_of_lt, mul_comm, pow-suc, arith, drop-cons}
+use Rattle.std.proofs.Math.Nat.{one-le-pow}
 use lib.Arith.{digits_lt, digits_div, digits_mod, mod-mul}
 use Rattle.wire.specs.Bytes.{num, be, Bytes}
 
@@ -11,8 +12,7 @@ power : (w : ℕ) → 256 ^ suc w ≡ 256 * 256 ^ w
 power w = pow-suc 256 w ∙ mul_comm (256 ^ w) 256
 
 positive : (w : ℕ) → 0 < 256 ^ w
-positive zero = omega arith
-positive (suc w) = let h = positive w in rw power (omega arith)
+positive w = one-le-pow w 256 (omega arith)
 
 -- the lowest digit of w + 1, and the w digits below it
 split : (x w : ℕ) → x % 256 ^ suc w ≡ (x / 256 ^ w % 256) * 256 ^ w + x % 256 ^ w

@@ -13,7 +13,7 @@ use Rattle.wire.specs.Reading.{row_read, request_read, entry_read}
 use Rattle.wire.specs.Requests.{if_valid, request}
 use Rattle.wire.specs.Writing.{row_bytes, request_bytes, entry_bytes}
 use Rattle.wire.proofs.Digits.{be_num}
-use Rattle.wire.proofs.Found.{err_not_ok, with_ok, check_ok}
+use Rattle.wire.proofs.Found.{with_ok, check_ok}
 
 pub bytes_drop : (n : ℕ) (bs : List ℕ) → Bytes bs → Bytes (drop n bs)
 bytes_drop n bs bytes i = let e = get_or-drop n bs i 0 in rw e (bytes (n + i))
@@ -42,10 +42,10 @@ request_fields client stamp work r e = go (in_range client stamp work) (λ t. t)
     go : (b : Bool) (f : IsTrue b → IsTrue (in_range client stamp work)) → if_valid client stamp work b f ≡ Some r → (r.client ≡ client) × (r.stamp ≡ stamp) × (r.work ≡ work)
     go true f e = let same : ◌≡◌ {A = Request} (record { client = client; stamp = stamp; work = work; valid = f refl }) r = cc in
         (sym (ap (λ (q : Request). q.client) same), sym (ap (λ (q : Request). q.stamp) same), sym (ap (λ (q : Request). q.work) same))
-    go false f e = let z : ◌≡◌ {A = ℕ} 0 1 = cc in absurd (omega arith)
+    go false f e = cc
 
 found : (o : Option Request) (f : ReadFault) (r : Request) → ok_or o f ≡ Ok r → o ≡ Some r
-found None f r e = absurd (err_not_ok f r e)
+found None f r e = cc
 found (Some q) f r e = cc
 
 pub request_is_in : (place : ℕ) (bs : List ℕ) (r : Request) → Bytes bs → 14 ≤ length bs → request_read place bs ≡ Ok r → request_bytes r ++ drop 14 bs ≡ bs

@@ -13,21 +13,17 @@ use Rattle.wire.specs.Requests.{request, blank, request_or_blank}
 use Rattle.wire.proofs.Cuts.{num-take}
 use Rattle.wire.proofs.Steps.{accepted_is}
 
--- a refusal is no answer
-pub err_not_ok : {A : Type 0} (f : ReadFault) (a : A) → Err f ≡ Ok a → ⊥
-err_not_ok f a e = let z : ◌≡◌ {A = ℕ} 0 1 = cc in omega arith
-
 -- what went on was accepted
 pub with_ok : {A B : Type 0} (r : Result A ReadFault) (rest : A → Result B ReadFault) (b : B) → with r rest ≡ Ok b → (a : A) × (r ≡ Ok a) × (rest a ≡ Ok b)
 with_ok (Ok a) rest b e = (a, refl, e)
-with_ok (Err f) rest b e = absurd (err_not_ok f b e)
+with_ok (Err f) rest b e = cc
 
 pub check_ok : {A : Type 0} (test : Bool) (f : ReadFault) (r : Result A ReadFault) (a : A) → check test f r ≡ Ok a → (test ≡ true) × (r ≡ Ok a)
 check_ok true f r a e = (refl, e)
-check_ok false f r a e = absurd (err_not_ok f a e)
+check_ok false f r a e = cc
 
 pub found_is : (o : Option Request) (f : ReadFault) (r : Request) → ok_or o f ≡ Ok r → unwrap_or o blank ≡ r
-found_is None f r e = absurd (err_not_ok f r e)
+found_is None f r e = cc
 found_is (Some q) f r e = cc
 
 entry_found : (view place : ℕ) (bs : List ℕ) (e : LogEntry) → entry_read view place bs ≡ Ok e → entry_in bs ≡ e

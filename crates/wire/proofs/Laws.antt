@@ -13,7 +13,7 @@ use Rattle.wire.specs.Statements.{Statement, Said}
 use Rattle.wire.specs.Writing.{head_bytes, writing, field, refused_at}
 use Rattle.wire.proofs.Digits.{be_num}
 use Rattle.wire.proofs.Exact.{bytes_drop, bytes_take}
-use Rattle.wire.proofs.Found.{err_not_ok, with_ok, check_ok}
+use Rattle.wire.proofs.Found.{with_ok, check_ok}
 use Rattle.wire.proofs.Kept.{PartsOf, prepare_kept, commit_kept, doubt_kept, report_kept, closing_kept, reply_kept}
 use Rattle.wire.proofs.Written as written
 
@@ -34,33 +34,26 @@ head_is bs kind bytes long e =
     ∙ ap (λ (x : List ℕ). get_or bs 0 0 ∷ x) (sym (drop-cons bs 1 0 (omega arith)))
     ∙ sym (drop-cons bs 0 0 (omega arith))
 
+module _ (config : ClusterConfig) (kind : Kind) (h view : ℕ) (contents bodies : List ℕ) (all : List (Unit {0})) (s : Statement) where
+  -- parts of that many rows that read are those of the statement
+  abbrev Keeps : ℕ → Type 0
+  Keeps rows = length contents ≡ 6 * rows → length bodies ≡ rows * body_length kind → parts_read 6 (row_read kind) rows 0 contents ≡ Ok all
+      → bodies_read config kind view rows contents bodies ≡ Ok s → PartsOf config kind h view rows contents bodies s
+
 -- the parts that were read, by kind
 parts_kept : (config : ClusterConfig) (kind : Kind) (h view rows : ℕ) (contents bodies : List ℕ) (all : List (Unit {0})) (s : Statement) → Bytes contents → Bytes bodies
-    → may_count kind rows ≡ true → length contents ≡ 6 * rows → length bodies ≡ rows * body_length kind
-    → parts_read 6 (row_read kind) rows 0 contents ≡ Ok all → bodies_read config kind view rows contents bodies ≡ Ok s
-    → PartsOf config kind h view rows contents bodies s
-parts_kept config Prepare h view rows contents bodies all s some more may lc lb er eb =
-    subst (λ (k : ℕ). length contents ≡ 6 * k → length bodies ≡ k * 14 → parts_read 6 (row_read Prepare) k 0 contents ≡ Ok all
-    → bodies_read config Prepare view k contents bodies ≡ Ok s → PartsOf config Prepare h view k contents bodies s)
-    (sym (eqb-true rows 1 may)) (λ lc lb. prepare_kept config h view contents bodies some more all s lc lb) lc lb er eb
-parts_kept config Commit h view rows contents bodies all s some more may lc lb er eb =
-    subst (λ (k : ℕ). length contents ≡ 6 * k → length bodies ≡ k * 14 → parts_read 6 (row_read Commit) k 0 contents ≡ Ok all
-    → bodies_read config Commit view k contents bodies ≡ Ok s → PartsOf config Commit h view k contents bodies s)
-    (sym (eqb-true rows 1 may)) (λ lc lb. commit_kept config h view contents bodies some more all s lc lb) lc lb er eb
-parts_kept config Doubt h view rows contents bodies all s some more may lc lb er eb =
-    subst (λ (k : ℕ). length contents ≡ 6 * k → length bodies ≡ k * 0 → parts_read 6 (row_read Doubt) k 0 contents ≡ Ok all
-    → bodies_read config Doubt view k contents bodies ≡ Ok s → PartsOf config Doubt h view k contents bodies s)
-    (sym (eqb-true rows 0 may)) (λ lc lb _. doubt_kept config h view contents bodies some more s lc lb) lc lb er eb
-parts_kept config Report h view rows contents bodies all s some more may lc lb er eb =
-    report_kept config h view contents bodies some more rows all s may lc (omega arith) er eb
-parts_kept config Closing h view rows contents bodies all s some more may lc lb er eb =
-    subst (λ (k : ℕ). length contents ≡ 6 * k → length bodies ≡ k * 2 → parts_read 6 (row_read Closing) k 0 contents ≡ Ok all
-    → bodies_read config Closing view k contents bodies ≡ Ok s → PartsOf config Closing h view k contents bodies s)
-    (sym (eqb-true rows 1 may)) (λ lc lb. closing_kept config h view contents bodies some more all s lc lb) lc lb er eb
-parts_kept config Reply h view rows contents bodies all s some more may lc lb er eb =
-    subst (λ (k : ℕ). length contents ≡ 6 * k → length bodies ≡ k * 22 → parts_read 6 (row_read Reply) k 0 contents ≡ Ok all
-    → bodies_read config Reply view k contents bodies ≡ Ok s → PartsOf config Reply h view k contents bodies s)
-    (sym (eqb-true rows 1 may)) (λ lc lb. reply_kept config h view contents bodies some more all s lc lb) lc lb er eb
+    → may_count kind rows ≡ true → Keeps config kind h view contents bodies all s rows
+parts_kept config Prepare h view rows contents bodies all s some more may =
+    subst (Keeps config Prepare h view contents bodies all s) (sym (eqb-true rows 1 may)) (prepare_kept config h view contents bodies some more all s)
+parts_kept config Commit h view rows contents bodies all s some more may =
+    subst (Keeps config Commit h view contents bodies all s) (sym (eqb-true rows 1 may)) (commit_kept config h view contents bodies some more all s)
+parts_kept config Doubt h view rows contents bodies all s some more may =
+    subst (Keeps config Doubt h view contents bodies all s) (sym (eqb-true rows 0 may)) (λ lc lb er. doubt_kept config h view contents bodies some more s lc lb)
+parts_kept config Report h view rows contents bodies all s some more may = λ lc lb. report_kept config h view contents bodies some more rows all s may lc (omega arith)
+parts_kept config Closing h view rows contents bodies all s some more may =
+    subst (Keeps config Closing h view contents bodies all s) (sym (eqb-true rows 1 may)) (closing_kept config h view contents bodies some more all s)
+parts_kept config Reply h view rows contents bodies all s some more may =
+    subst (Keeps config Reply h view contents bodies all s) (sym (eqb-true rows 1 may)) (reply_kept config h view contents bodies some more all s)
 
 kept_by : (config : ClusterConfig) (bs : List ℕ) (m : Said) → Bytes bs → 7 ≤ length bs → (kind : Kind) → kind_of (get_or bs 0 0) ≡ Some kind → kind_read config (get_or bs 6 0) bs (Some kind) ≡ Ok m
     → (bs ≡ writing m.replica m.statement) × Fits config m.replica m.statement
@@ -97,7 +90,7 @@ read_is_written config bs m bytes e = go (kind_of (get_or bs 0 0)) refl a.1
     a = check_ok (leb 7 (length bs)) _ _ m e
 
     go : (o : Option Kind) → kind_of (get_or bs 0 0) ≡ o → kind_read config (get_or bs 6 0) bs o ≡ Ok m → IsWriting config bs m
-    go None ek e' = absurd (err_not_ok _ m e')
+    go None ek e' = cc
     go (Some kind) ek e' =
         let k = kept_by config bs m bytes (leb-true 7 _ a.0) kind ek e' in
         record {

@@ -25,7 +25,7 @@ use Rattle.wire.proofs.Reporting.{table_length, entries_length}
 -- the tests that a statement without a misfit passes
 pub fits_field : (fits : Bool) (offset : ℕ) (rest : Option ℕ) → field fits offset rest ≡ None → (fits ≡ true) × (rest ≡ None)
 fits_field true offset rest e = (refl, e)
-fits_field false offset rest e = let z : ◌≡◌ {A = ℕ} 0 1 = cc in absurd (omega arith)
+fits_field false offset rest e = cc
 
 -- the ranges of a request's fields
 pub ranges : (r : Request) → (0 < r.client) × (r.client < 256 ^ 2) × (r.stamp < 256 ^ 4) × (r.work < 256 ^ 8)
