@@ -1,5 +1,5 @@
 -- What holds of a cluster and the history that led to it, and what one event more owes.
-use Rattle.std.proofs.Common.{◌≡◌, ℕ, Bool, not, T, List, [], ◌∷◌, ◌++◌, length, set, Some, Ok, Err, Option, Result, sym, refl, ap, ◌∙◌, subst, ⊎_elim, length-set}
+use Rattle.std.proofs.Common.{◌≡◌, ℕ, Bool, not, T, List, [], ◌∷◌, ◌++◌, length, set, Some, Ok, Err, Option, Result, sym, refl, ap, ◌∙◌, subst, ⊎_elim, arith, length-set}
 use Rattle.std.specs.List.{slice_get}
 use Rattle.std.proofs.lemmas.Bool.{cases_eq}
 use Rattle.std.proofs.lemmas.Option.{same_Some}
@@ -149,11 +149,8 @@ module _ (config : ClusterConfig) (machine : RequestMachine) (byzantine : ℕ �
       record {
         long = ap length nodes ∙ length-set c.nodes at after ∙ kept.long;
         placed = λ h node' e.
-            ⊎_elim
-            (λ (is : h ≡ at).
-            let stays = subst (SamePlace node.state) judges (step_same node.state c.sealed c.fits room (λ r. (machine.step node.machine r).1) act) in
-            rw (is_new h node' e is, is) (stays.0 ∙ named.0, stays.1 ∙ named.1))
-            (λ apart. kept.placed h node' (elsewhere h apart ∙ e)) (cases_eq h at);
+            let same = subst (SamePlace node.state) judges (step_same node.state c.sealed c.fits room (λ r. (machine.step node.machine r).1) act) in
+            grind (arith, is_new h node' e, elsewhere h, kept.placed h node', named, same);
         keeps = λ h node' e honest.
             ⊎_elim (λ (is : h ≡ at). rw (is_new h node' e is) (caller_keeps (rw is at honest) verdict refl).0)
             (λ (apart : h ≡ at → ⊥).

@@ -49,10 +49,6 @@ module _ {machine : RequestMachine} {facts facts' : Facts machine} (s : State) (
   which : (v n : ℕ) (r' : Request) → facts'.Known s.number (vote s.config v s.number n r') → Which v n r'
   which v n r' k = grind (arith, adds.only _ k)
 
-  -- an earlier vote is for another number of the view
-  not_both : (n : ℕ) (r' : Request) → n ≡ suc s.prepared → facts.Known s.number (vote s.config s.view s.number n r') → ⊥
-  not_both n r' is old = let (k, numbered, l, _) = (inv.votes.in_view n r' old).1 in omega arith
-
   votes : Votes s.config machine facts' s.number s.view s.phase (s.prepared + 1) requests
   votes =
       record {
