@@ -1,11 +1,11 @@
 -- Logs put together by the highest view for each number: each entry is one of theirs, and none of theirs is of a higher view.
-use Rattle.std.proofs.Common.{◌≡◌, ℕ, zero, suc, ◌<◌, ◌≤◌, Bool, cond, T, ltb, List, [], ◌∷◌, Some, None, refl, ap, ◌∙◌, sym, arith}
+use Rattle.std.proofs.Common.{◌≡◌, ℕ, zero, suc, ◌<◌, Bool, cond, T, ltb, List, [], ◌∷◌, Some, refl, ap, ◌∙◌, sym, arith}
 use Rattle.std.specs.List.{slice_get}
 use Rattle.wire.specs.declared.entry.LogEntry.{LogEntry}
 use Rattle.protocol.specs.Numbers.{at_number}
 use Rattle.protocol.specs.Rules.{HasEntry}
 use Rattle.protocol.specs.Selecting.{later, latest}
-use Rattle.protocol.proofs.Choosing.{NoLower, latest_from, latest_no_lower}
+use Rattle.protocol.proofs.Choosing.{latest_from, latest_no_lower}
 
 -- two logs in one, with the later entry for each number
 merged : List LogEntry → List LogEntry → List LogEntry

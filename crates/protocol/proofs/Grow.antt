@@ -9,7 +9,7 @@ use Rattle.wire.specs.Statements.{Statement, doubt, report, reply}
 use Rattle.protocol.specs.declared.state.State.{State}
 use Rattle.protocol.specs.Facts.{Facts}
 use Rattle.protocol.specs.Replay.{RequestMachine}
-use Rattle.protocol.specs.Rules.{Certified, Backed, Executed, nothing, one_more, Replied, Heeded, Chosen, ClosedBefore}
+use Rattle.protocol.specs.Rules.{Certified, Executed, nothing, one_more, Replied, Chosen, ClosedBefore}
 use Rattle.protocol.specs.Steps.{Effect}
 use Rattle.protocol.specs.Verdicts.{used}
 use Rattle.protocol.proofs.Parts.{Reports, Inv}

@@ -4,7 +4,6 @@ use Rattle.std.proofs.lemmas.Bool.Decides.{nat_tests}
 use Rattle.std.proofs.lemmas.Slice.Eq.{bytes_eq-Decides}
 use Rattle.wire.specs.declared.config.ClusterConfig.{ClusterConfig}
 use Rattle.wire.specs.declared.entry.LogEntry.{LogEntry}
-use Rattle.wire.specs.declared.request.Request.{Request}
 use Rattle.wire.specs.Bytes.{Bytes}
 use Rattle.wire.specs.Configs.{replicas}
 use Rattle.wire.specs.Kinds.{last_view, last_number}
@@ -16,7 +15,6 @@ use Rattle.wire.proofs.Laws.{written_reads, read_is_written}
 use Rattle.protocol.specs.Certificates.{message, known}
 use Rattle.protocol.specs.Receipts.{Made}
 use Rattle.protocol.specs.Verdicts.{added}
-use Rattle.protocol.specs.Votes.{vote}
 
 -- ---- statements in range
 

@@ -1,5 +1,5 @@
 -- A new cluster keeps what its replicas have to keep: nothing is known, prepared, logged or held.
-use Rattle.std.proofs.Common.{◌≡◌, ℕ, ◌<◌, Bool, T, [], map, length, Some, sym, refl, ap, ◌∙◌, subst, arith}
+use Rattle.std.proofs.Common.{◌≡◌, ℕ, ◌<◌, Bool, T, [], map, length, Some, refl, ap, ◌∙◌, subst, arith}
 use lib.ListN.{length-replicate}
 use Rattle.std.specs.List.{slice_get, range_with_len}
 use Rattle.std.proofs.lemmas.List.FromFn.{length-map-range_with_len, get_or-map-range_with_len}
