@@ -1,5 +1,6 @@
 -- The group of replicas that serves a view, its primary and its followers.
-use Rattle.std.specs.Prelude.{ℕ, ◌%◌, Bool, false, not, ◌&&◌, ◌||◌, List, [], ◌∷◌, length, ◌==◌, slice_index, slice_index_or}
+use Rattle.std.specs.Prelude.{ℕ, ◌%◌, Bool, not, ◌&&◌, List, [], ◌∷◌, length, ◌==◌, slice_index, slice_index_or}
+use Rattle.std.specs.List.{list_any}
 use Rattle.wire.specs.declared.config.ClusterSize.{ClusterSize}
 use Rattle.wire.specs.declared.config.ClusterSize.TheVariants.{Three, Five}
 use Rattle.wire.specs.declared.config.ClusterConfig.{ClusterConfig}
@@ -21,8 +22,7 @@ group c view = slice_index_or (rows c) (view % length (rows c)) []
 
 -- a replica is among the members
 abbrev pub among : List ℕ → ℕ → Bool
-among [] replica = false
-among (m ∷ members) replica = m == replica || among members replica
+among members replica = list_any (λ m. m == replica) members
 
 -- the lowest member leads
 abbrev pub leader : List ℕ → ℕ

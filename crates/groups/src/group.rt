@@ -60,21 +60,13 @@ impl Group {
     pub fn contains(&self, replica: u8) -> bool
         ensures { result ≡ among (members_of self.now) replica }
     {
-        for member in self.members {
-            if *member == replica {
-                return true;
-            }
-        }
-        false
+        self.members.contains(&replica)
     }
 
     pub fn primary(&self) -> u8
         ensures { result ≡ leader (members_of self.now) }
     {
-        match self.members {
-            [lowest, ..] => *lowest,
-            [] => 0,
-        }
+        self.members.first().copied().unwrap_or(0)
     }
 
     pub fn is_follower(&self, replica: u8) -> bool

@@ -39,7 +39,7 @@ mod tests {
             Ok(_) => Err(Fail::new("no such view")),
             Err(fault) => {
                 assert_eq!(rt;
-                    fault.refusal(),
+                    Refusal::from(fault),
                     Refusal {
                         number: 3,
                         layer: Layer::Reader,

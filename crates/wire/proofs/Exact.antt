@@ -1,5 +1,5 @@
 -- Bytes that read are the writing of what they read as: each field is kept, and nothing else is there.
-use Rattle.std.proofs.Common.{◌≡◌, ℕ, zero, suc, ◌+◌, ◌≤◌, Bool, true, false, T, eqb, ltb, List, [], ◌∷◌, ◌++◌, length, take, drop, Some, None, Ok, Option, sym, ap, ◌∙◌, arith, length-drop, get_or-drop, drop-drop}
+use Rattle.std.proofs.Common.{◌≡◌, ℕ, zero, suc, ◌+◌, ◌≤◌, Bool, true, false, IsTrue, eqb, ltb, List, [], ◌∷◌, ◌++◌, length, take, drop, Some, None, Ok, Option, sym, refl, ap, ◌∙◌, arith, length-drop, get_or-drop, drop-drop}
 use Rattle.std.specs.Option.{ok_or}
 use Rattle.std.proofs.lemmas.Bool.{eqb-true}
 use Rattle.wire.specs.declared.entry.LogEntry.{LogEntry}
@@ -39,8 +39,8 @@ row_is kind row bs u bytes long e =
 request_fields : (client stamp work : ℕ) (r : Request) → request client stamp work ≡ Some r → (r.client ≡ client) × (r.stamp ≡ stamp) × (r.work ≡ work)
 request_fields client stamp work r e = go (in_range client stamp work) (λ t. t) e
   where
-    go : (b : Bool) (f : T b → T (in_range client stamp work)) → if_valid client stamp work b f ≡ Some r → (r.client ≡ client) × (r.stamp ≡ stamp) × (r.work ≡ work)
-    go true f e = let same : ◌≡◌ {A = Request} (record { client = client; stamp = stamp; work = work; valid = f tt }) r = cc in
+    go : (b : Bool) (f : IsTrue b → IsTrue (in_range client stamp work)) → if_valid client stamp work b f ≡ Some r → (r.client ≡ client) × (r.stamp ≡ stamp) × (r.work ≡ work)
+    go true f e = let same : ◌≡◌ {A = Request} (record { client = client; stamp = stamp; work = work; valid = f refl }) r = cc in
         (sym (ap (λ (q : Request). q.client) same), sym (ap (λ (q : Request). q.stamp) same), sym (ap (λ (q : Request). q.work) same))
     go false f e = let z : ◌≡◌ {A = ℕ} 0 1 = cc in absurd (omega arith)
 

@@ -1,5 +1,7 @@
 -- The entries that were read are those that stand in the bodies.
-use Rattle.std.proofs.Common.{◌≡◌, ℕ, zero, suc, ◌+◌, ◌*◌, ◌/◌, ◌<◌, ◌≤◌, Bool, true, false, ltb, List, ◌∷◌, length, drop, Some, None, Ok, Err, Option, Result, unwrap_or, sym, refl, ap, ◌∙◌, not-suc-le-zero, arith, drop-drop}
+use Rattle.std.proofs.Common.{◌≡◌, ℕ, zero, suc, ◌+◌, ◌*◌, ◌/◌, ◌<◌, ◌≤◌, Bool, true, false, ltb, List, ◌∷◌, length, take, drop, Some, None, Ok, Err, Option, Result, MatchOption, unwrap_or, sym, refl, ap, ◌∙◌, not-suc-le-zero, arith, drop-drop}
+use Rattle.std.proofs.lemmas.List.{drop-take}
+use denote.Ref.{Bor}
 use Rattle.std.specs.List.{slice_get}
 use Rattle.std.specs.Option.{ok_or}
 use Rattle.wire.specs.declared.entry.LogEntry.{LogEntry}
@@ -8,7 +10,8 @@ use Rattle.wire.specs.declared.request.Request.{Request}
 use Rattle.wire.specs.Bytes.{num}
 use Rattle.wire.specs.Messages.{entry_in, entries_in}
 use Rattle.wire.specs.Reading.{check, with, checked, parts_read, entry_read, entries_read}
-use Rattle.wire.specs.Requests.{request, blank}
+use Rattle.wire.specs.Requests.{request, blank, request_or_blank}
+use Rattle.wire.proofs.Cuts.{num-take}
 use Rattle.wire.proofs.Steps.{accepted_is}
 
 -- a refusal is no answer
@@ -46,21 +49,31 @@ entries_found view place (suc rows) row bs es eq =
     (λ i. h i ∷ t i) ∙ cc
 
 -- entries that pass the check are those of the bodies
-pub entries_are : (view rows place : ℕ) (bs : List ℕ) → length bs ≡ 18 * rows → checked (entries_read view rows place bs) ≡ Ok tt
+pub entries_are : (view rows place : ℕ) (bs : List ℕ) → length bs ≡ 18 * rows → checked (entries_read view (length bs / 18) place bs) ≡ Ok tt
     → entries_read view rows place bs ≡ Ok (entries_in (length bs / 18) bs)
 entries_are view rows place bs long passes =
-    let a = accepted_is (entries_read view rows place bs) passes in
     let n : length bs / 18 ≡ rows = omega arith in
-    a.1 ∙ ap Ok (sym (entries_found view place rows 0 bs a.0 a.1) ∙ ap (λ (k : ℕ). entries_in k bs) (sym n))
+    let a = accepted_is (entries_read view (length bs / 18) place bs) passes in
+    ap (λ (k : ℕ). entries_read view k place bs) (sym n) ∙ a.1 ∙ ap Ok (sym (entries_found view place (length bs / 18) 0 bs a.0 a.1))
+
+-- an entry is decoded from its own bytes alone
+entry_in_part : (bs : List ℕ) → entry_in (take 18 bs) ≡ entry_in bs
+entry_in_part bs =
+    let v = num-take 18 bs 0 4 (omega arith) in
+    let rest = drop-take 4 14 bs in
+    let c = ap (λ (part : List ℕ). num part 0 2) rest ∙ num-take 14 (drop 4 bs) 0 2 (omega arith) in
+    let s = ap (λ (part : List ℕ). num part 2 4) rest ∙ num-take 14 (drop 4 bs) 2 4 (omega arith) in
+    let w = ap (λ (part : List ℕ). num part 6 8) rest ∙ num-take 14 (drop 4 bs) 6 8 (omega arith) in
+    λ i. record { view = v i; request = request_or_blank (c i) (s i) (w i) }
 
 -- the entry of a row
-pub entry_at : (rows row : ℕ) (bs : List ℕ) → row < rows → slice_get (entries_in rows bs) row ≡ Some (entry_in (drop (18 * row) bs))
+entry_at : (rows row : ℕ) (bs : List ℕ) → row < rows → slice_get (entries_in rows bs) row ≡ Some (entry_in (drop (18 * row) bs))
 entry_at zero row bs within = absurd (not-suc-le-zero within)
 entry_at (suc rows) zero bs within = refl
 entry_at (suc rows) (suc row) bs within =
     entry_at rows row (drop 18 bs) (omega arith) ∙ ap (λ (l : List ℕ). Some (entry_in l)) (drop-drop (18 * row) 18 bs ∙ ap (λ (k : ℕ). drop k bs) (omega arith))
 
-pub no_entry_past : (rows row : ℕ) (bs : List ℕ) → rows ≤ row → slice_get (entries_in rows bs) row ≡ None
+no_entry_past : (rows row : ℕ) (bs : List ℕ) → rows ≤ row → slice_get (entries_in rows bs) row ≡ None
 no_entry_past zero row bs past = refl
 no_entry_past (suc rows) zero bs past = absurd (not-suc-le-zero past)
 no_entry_past (suc rows) (suc row) bs past = no_entry_past rows row (drop 18 bs) (omega arith)
@@ -68,3 +81,13 @@ no_entry_past (suc rows) (suc row) bs past = no_entry_past rows row (drop 18 bs)
 pub length_entries : (rows : ℕ) (bs : List ℕ) → length (entries_in rows bs) ≡ rows
 length_entries zero bs = refl
 length_entries (suc rows) bs = ap suc (length_entries rows (drop 18 bs))
+
+-- what is decoded of the part of a row is the entry of the row
+pub entry_of_part : (bs : List ℕ) (row : ℕ) (part : Option (Bor (List ℕ))) (e : Option LogEntry)
+    → MatchOption part (length bs / 18 ≤ row) (λ x. (row * 18 + 18 ≤ length bs) × (x.now ≡ take 18 (drop (row * 18) bs)))
+    → MatchOption part (e ≡ None) (λ x. e ≡ Some (entry_in x.now)) → e ≡ slice_get (entries_in (length bs / 18) bs) row
+entry_of_part bs row None e past is = is ∙ sym (no_entry_past (length bs / 18) row bs past)
+entry_of_part bs row (Some x) e here is =
+    let place : drop (row * 18) bs ≡ drop (18 * row) bs = ap (λ (k : ℕ). drop k bs) (omega arith) in
+    is ∙ ap (λ (part : List ℕ). Some (entry_in part)) here.1 ∙ ap Some (entry_in_part (drop (row * 18) bs)) ∙ ap (λ (part : List ℕ). Some (entry_in part)) place
+    ∙ sym (entry_at (length bs / 18) row bs (omega (arith, here.0)))

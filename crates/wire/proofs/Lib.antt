@@ -1,4 +1,5 @@
 pub mod Building
+pub mod Cuts
 pub mod Steps
 pub mod Counts
 pub mod Found

@@ -1,5 +1,5 @@
 -- What is written of a statement whose fields are in range reads back as that statement.
-use Rattle.std.proofs.Common.{◌≡◌, ℕ, zero, suc, ◌+◌, ◌*◌, ◌^◌, ◌<◌, ◌≤◌, Bool, true, false, ◌&&◌, T, eqb, ltb, leb, List, [], ◌∷◌, ◌++◌, length, Some, None, Ok, Option, refl, ap, ◌∙◌, mul-add, arith, length-append, take_at, drop_at}
+use Rattle.std.proofs.Common.{◌≡◌, ℕ, zero, suc, ◌+◌, ◌*◌, ◌^◌, ◌<◌, ◌≤◌, Bool, true, false, eqb, ltb, leb, List, [], ◌∷◌, ◌++◌, length, Some, None, Ok, Option, refl, ap, ◌∙◌, mul-add, arith, length-append, take_at, drop_at}
 use Rattle.std.specs.Option.{ok_or}
 use Rattle.std.proofs.lemmas.Bool.{and_parts, le-leb, leb-true, lt-ltb, ltb-true, eq-eqb}
 use Rattle.wire.specs.declared.config.ClusterConfig.{ClusterConfig}
@@ -29,15 +29,11 @@ fits_field false offset rest e = let z : ◌≡◌ {A = ℕ} 0 1 = cc in absurd 
 
 -- the ranges of a request's fields
 pub ranges : (r : Request) → (0 < r.client) × (r.client < 256 ^ 2) × (r.stamp < 256 ^ 4) × (r.work < 256 ^ 8)
-ranges r = go (ltb 0 r.client) (ltb r.client (2 ^ 16)) (ltb r.stamp (2 ^ 32)) (ltb r.work (2 ^ 64)) refl refl refl refl r.valid
-  where
-    go : (a b c d : Bool) → ltb 0 r.client ≡ a → ltb r.client (2 ^ 16) ≡ b → ltb r.stamp (2 ^ 32) ≡ c → ltb r.work (2 ^ 64) ≡ d → T (a && (b && (c && d)))
-        → (0 < r.client) × (r.client < 256 ^ 2) × (r.stamp < 256 ^ 4) × (r.work < 256 ^ 8)
-    go true true true true a b c d t = (ltb-true _ _ a, ltb-true _ _ b, ltb-true _ _ c, ltb-true _ _ d)
-    go true true true false a b c d t = absurd t
-    go true true false z a b c d t = absurd t
-    go true false y z a b c d t = absurd t
-    go false x y z a b c d t = absurd t
+ranges r =
+    let p = and_parts (ltb 0 r.client) _ r.valid in
+    let q = and_parts (ltb r.client (2 ^ 16)) _ p.1 in
+    let s = and_parts (ltb r.stamp (2 ^ 32)) (ltb r.work (2 ^ 64)) q.1 in
+    (ltb-true _ _ p.0, ltb-true _ _ q.0, ltb-true _ _ s.0, ltb-true _ _ s.1)
 
 pub request_back : (place : ℕ) (r : Request) (rest : List ℕ) → request_read place (request_bytes r ++ rest) ≡ Ok r
 request_back place r rest =

@@ -33,7 +33,7 @@ entries_of r = entries_in (rows_of r) r.bodies.now
 
 -- the request of a vote
 abbrev pub request_of : Vote → Request
-request_of v = request_or_blank v.client v.stamp v.work
+request_of v = v.request
 
 -- who says what
 abbrev pub says : Message → Said

@@ -48,7 +48,7 @@ pub(crate) fn put_head(out: &mut [u8], kind: Kind, replica: u8, view: u32, rows:
     requires { 7 ≤ length out.old }
     ensures { out.new ≡ over 0 (head_bytes kind replica view rows) out.old }
 {
-    put(out, 0, &[kind.number(), replica]);
+    put(out, 0, &[u8::from(kind), replica]);
     put_u32(out, 2, view);
     put(out, 6, &[rows]);
 }

@@ -4,14 +4,14 @@ ghost use Rattle.wire.specs.Configs.{config_of, faults, replicas};
 
 use crate::fault::ReadFault;
 
-#[derive(Clone, Copy, PartialEq)]
+#[derive(Clone, Copy, PartialEq, Eq, Debug)]
 pub enum ClusterSize {
     Three,
     Five,
 }
 
 // A cluster has n = 2t + 1 replicas and bears t Byzantine ones.
-#[derive(Clone, Copy, PartialEq)]
+#[derive(Clone, Copy, PartialEq, Eq, Debug)]
 pub struct ClusterConfig {
     size: ClusterSize,
 }

@@ -4,7 +4,7 @@ ghost use Rattle.wire.specs.Faults.{refusal_of};
 
 use refusals::{Layer, Refusal};
 
-#[derive(Clone, Copy, PartialEq, Debug)]
+#[derive(Clone, Copy, PartialEq, Eq, Debug)]
 pub enum ReadFault {
     // fewer bytes than a head, or a length that head and kind do not make; holds the length given
     Length(usize),
@@ -16,11 +16,11 @@ pub enum ReadFault {
     Setting,
 }
 
-impl ReadFault {
-    pub fn refusal(&self) -> Refusal
-        ensures { result ≡ refusal_of self.now }
-    {
-        let (number, place) = match *self {
+impl From<ReadFault> for Refusal {
+    ghost from_gives = { λ fault r. r ≡ refusal_of fault };
+
+    fn from(fault: ReadFault) -> Refusal {
+        let (number, place) = match fault {
             ReadFault::Length(given) => (1, given),
             ReadFault::UnknownKind => (2, 0),
             ReadFault::Field(offset) => (3, offset),

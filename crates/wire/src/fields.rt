@@ -2,14 +2,14 @@
 ghost use Rattle.std.specs.Prelude.{◌≡◌, ◌≤◌, length};
 ghost use Rattle.std.specs.List.{slice_get};
 ghost use Rattle.wire.specs.Messages.{says, request_of, entry_in, rows_of, entries_of};
-ghost use Rattle.wire.specs.Requests.{request_or_blank};
 ghost use Rattle.wire.specs.Statements.{view_of};
 ghost use Rattle.wire.specs.Writing.{kind_in, rows_in};
 
 use crate::entry::LogEntry;
 use crate::kind::Kind;
 use crate::message::{Closing, Message, Reply, Report, Vote};
-use crate::numbers::{u16_at, u32_at, u64_at};
+use crate::numbers::bytes_at;
+use crate::reader::read_request;
 use crate::request::Request;
 
 impl Message<'_> {
@@ -27,6 +27,7 @@ impl Message<'_> {
     }
 
     // How many rows, and so bodies, the message has.
+    #[tactic(auto, using(crate::proofs::Found::length_entries))]
     pub fn rows(&self) -> usize
         ensures { result ≡ rows_in (says self.now).statement }
     {
@@ -42,8 +43,7 @@ impl Message<'_> {
         ensures { result ≡ (says self.now).replica }
     {
         match self {
-            Message::Prepare(vote) => vote.replica,
-            Message::Commit(vote) => vote.replica,
+            Message::Prepare(vote) | Message::Commit(vote) => vote.replica,
             Message::Doubt(doubt) => doubt.replica,
             Message::Report(report) => report.replica,
             Message::Closing(closing) => closing.replica,
@@ -56,8 +56,7 @@ impl Message<'_> {
         ensures { result ≡ view_of (says self.now).statement }
     {
         match self {
-            Message::Prepare(vote) => vote.view,
-            Message::Commit(vote) => vote.view,
+            Message::Prepare(vote) | Message::Commit(vote) => vote.view,
             Message::Doubt(doubt) => doubt.view,
             Message::Report(report) => report.view,
             Message::Closing(closing) => closing.view,
@@ -66,24 +65,14 @@ impl Message<'_> {
     }
 }
 
-fn request_with(client: u16, stamp: u32, work: u64) -> Request
-    ensures { result ≡ request_or_blank client stamp work }
-{
-    match Request::new(client, stamp, work) {
-        Ok(request) => request,
-        Err(_) => Request::blank(),
-    }
-}
-
 fn entry_of(body: &[u8]) -> LogEntry
     requires { 18 ≤ length body.now }
     ensures { result ≡ entry_in body.now }
 {
-    let (_, request) = body.split_at(4);
-    let request = request_with(u16_at(request, 0), u32_at(request, 2), u64_at(request, 6));
+    let (view, request) = body.split_at(4);
     LogEntry {
-        view: u32_at(body, 0),
-        request,
+        view: u32::from_be_bytes(bytes_at(view, 0)),
+        request: read_request(4, request).unwrap_or(Request::blank()),
     }
 }
 
@@ -97,7 +86,7 @@ impl Vote<'_> {
     pub fn request(&self) -> Request
         ensures { result ≡ request_of self.now }
     {
-        request_with(self.client, self.stamp, self.work)
+        self.request
     }
 }
 
@@ -119,7 +108,7 @@ impl Reply<'_> {
     pub fn request(&self) -> Request
         ensures { result ≡ request_of self.now.vote }
     {
-        self.vote.request()
+        self.vote.request
     }
 
     pub fn outcome(&self) -> u64
@@ -141,10 +130,6 @@ impl Report<'_> {
     pub fn entry(&self, row: usize) -> Option<LogEntry>
         ensures { result ≡ slice_get (entries_of self.now) row }
     {
-        if row >= self.len() {
-            return None;
-        }
-        let (_, body) = self.bodies.split_at(18 * row);
-        Some(entry_of(body))
+        self.bodies.chunks_exact(18).nth(row).map(entry_of)
     }
 }

@@ -1,13 +1,16 @@
 // The six kinds of message.
-ghost use Rattle.std.specs.Prelude.{◌≡◌};
+ghost use Rattle.std.specs.Prelude.{◌≡◌, ◌<◌, Some, None, MatchResult};
+ghost use Rattle.wire.specs.declared.fault.ReadFault.TheVariants.{UnknownKind};
 ghost use Rattle.wire.specs.Kinds.{kind_of, kind_number, may_count, may_number, body_length, message_length};
+
+use crate::fault::ReadFault;
 
 // The last view and the last number of a request.
 pub const LAST_VIEW: u32 = 999_999;
 
 pub const LAST_NUMBER: u8 = 96;
 
-#[derive(Clone, Copy)]
+#[derive(Clone, Copy, PartialEq, Eq, Debug)]
 pub enum Kind {
     Prepare,
     Commit,
@@ -17,26 +20,30 @@ pub enum Kind {
     Reply,
 }
 
-impl Kind {
-    // The kind that a number stands for.
-    pub fn from_number(number: u8) -> Option<Kind>
-        ensures { result ≡ kind_of number }
-    {
+// The kind that a number stands for.
+impl TryFrom<u8> for Kind {
+    type Error = ReadFault;
+
+    ghost try_from_gives = { λ number r. MatchResult r (λ kind. kind_of number ≡ Some kind) (λ fault. (fault ≡ UnknownKind) × (kind_of number ≡ None)) };
+
+    fn try_from(number: u8) -> Result<Kind, ReadFault> {
         match number {
-            1 => Some(Kind::Prepare),
-            2 => Some(Kind::Commit),
-            3 => Some(Kind::Doubt),
-            4 => Some(Kind::Report),
-            5 => Some(Kind::Closing),
-            6 => Some(Kind::Reply),
-            _ => None,
+            1 => Ok(Kind::Prepare),
+            2 => Ok(Kind::Commit),
+            3 => Ok(Kind::Doubt),
+            4 => Ok(Kind::Report),
+            5 => Ok(Kind::Closing),
+            6 => Ok(Kind::Reply),
+            _ => Err(ReadFault::UnknownKind),
         }
     }
+}
 
-    pub fn number(self) -> u8
-        ensures { result ≡ kind_number self }
-    {
-        match self {
+impl From<Kind> for u8 {
+    ghost from_gives = { λ kind number. number ≡ kind_number kind };
+
+    fn from(kind: Kind) -> u8 {
+        match kind {
             Kind::Prepare => 1,
             Kind::Commit => 2,
             Kind::Doubt => 3,
@@ -45,7 +52,9 @@ impl Kind {
             Kind::Reply => 6,
         }
     }
+}
 
+impl Kind {
     // Whether a message of this kind may have that many rows.
     pub(crate) fn may_count(self, rows: u8) -> bool
         ensures { result ≡ may_count self rows }
@@ -58,12 +67,13 @@ impl Kind {
     }
 
     // Whether a row, counted from 0, may have that number.
-    pub(crate) fn may_number(self, row: u8, number: u32) -> bool
+    pub(crate) fn may_number(self, row: usize, number: u32) -> bool
+        requires { row < 1000 }
         ensures { result ≡ may_number self row number }
     {
         match self {
             Kind::Doubt => false,
-            Kind::Report => number == u32::from(row) + 1,
+            Kind::Report => number as usize == row + 1,
             Kind::Closing => number == 0,
             _ => 1 <= number && number <= u32::from(LAST_NUMBER),
         }

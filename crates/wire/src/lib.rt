@@ -9,7 +9,7 @@ pub mod fault;
 pub mod fields;
 mod head;
 pub mod kind;
-mod mask;
+pub mod mask;
 pub mod message;
 mod numbers;
 mod parts;

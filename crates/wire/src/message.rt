@@ -1,4 +1,5 @@
 // A read message: one of the six kinds, with the parts of the input that it holds.
+use crate::request::Request;
 
 #[derive(Clone, Copy)]
 pub enum Message<'a> {
@@ -16,9 +17,7 @@ pub struct Vote<'a> {
     pub(crate) replica: u8,
     pub(crate) view: u32,
     pub(crate) number: u32,
-    pub(crate) client: u16,
-    pub(crate) stamp: u32,
-    pub(crate) work: u64,
+    pub(crate) request: Request,
     pub(crate) contents: &'a [u8],
     pub(crate) body: &'a [u8],
 }

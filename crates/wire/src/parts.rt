@@ -1,121 +1,127 @@
 // A message cut into its parts: what its head says, its table of contents and its bodies.
-ghost use Rattle.std.specs.Prelude.{◌≡◌, ◌+◌, ◌*◌, ◌≤◌, Bool, true, length, Ok, Err, MatchResult};
+ghost use Rattle.std.specs.Prelude.{◌≡◌, ◌*◌, ◌≤◌, IsTrue, length, Ok, MatchResult};
 ghost use Rattle.wire.specs.Bytes.{num};
 ghost use Rattle.wire.specs.Kinds.{may_count, body_length};
-ghost use Rattle.wire.specs.Messages.{said, Holds, request_of};
-ghost use Rattle.wire.specs.Reading.{request_read, replied, closed, reported, bodies_read, stated};
+ghost use Rattle.wire.specs.Messages.{said, Holds};
+ghost use Rattle.wire.specs.Reading.{request_read, replied, closed, reported, bodies_read, fields_read, stated};
 
 use crate::config::ClusterConfig;
 use crate::fault::ReadFault;
-use crate::kind::Kind;
+use crate::kind::{Kind, LAST_VIEW};
 use crate::mask::may_close;
 use crate::message::{Closing, Doubt, Message, Reply, Report, Vote};
-use crate::numbers::{u16_at, u32_at, u64_at};
-use crate::reader::{check_entries, check_request};
+use crate::numbers::bytes_at;
+use crate::reader::{check_entries, check_rows, read_request};
 
+// The kind allows so many rows, and the parts are as long as kind and rows make them.
 #[derive(Clone, Copy)]
 pub(crate) struct Parts<'a> {
+    pub(crate) kind: Kind,
     pub(crate) replica: u8,
     pub(crate) view: u32,
     pub(crate) rows: u8,
     pub(crate) contents: &'a [u8],
     pub(crate) bodies: &'a [u8],
+    ghost rows_value: { IsTrue (may_count kind rows) },
+    ghost contents_len: { length contents.now ≡ 6 * rows },
+    ghost bodies_len: { length bodies.now ≡ rows * body_length kind },
 }
 
-fn read_vote<'a>(parts: Parts<'a>) -> Result<Vote<'a>, ReadFault>
-    requires { (4 ≤ length parts.contents.now) × (14 ≤ length parts.bodies.now) }
-    ensures { MatchResult result
-        (λ v. (v.replica ≡ parts.entry.replica)
-        × (v.view ≡ parts.entry.view)
-        × (v.number ≡ num parts.entry.contents.now 0 4)
-        × (request_read 13 parts.entry.bodies.now ≡ Ok (request_of v))
-        × (v.contents.now ≡ parts.entry.contents.now)
-        × (v.body.now ≡ parts.entry.bodies.now))
-        (λ fault. request_read 13 parts.entry.bodies.now ≡ Err fault) }
-{
-    check_request(13, parts.bodies)?;
-    Ok(Vote {
-        replica: parts.replica,
-        view: parts.view,
-        number: u32_at(parts.contents, 0),
-        client: u16_at(parts.bodies, 0),
-        stamp: u32_at(parts.bodies, 2),
-        work: u64_at(parts.bodies, 6),
-        contents: parts.contents,
-        body: parts.bodies,
-    })
-}
-
-fn read_reply<'a>(parts: Parts<'a>) -> Result<Message<'a>, ReadFault>
-    requires { (4 ≤ length parts.contents.now) × (22 ≤ length parts.bodies.now) }
-    ensures says { said result ≡ stated parts.entry.replica (replied parts.entry.view parts.entry.contents.now parts.entry.bodies.now) }
-    ensures holds { Holds parts.entry.contents.now parts.entry.bodies.now result }
-{
-    let vote = read_vote(parts)?;
-    Ok(Message::Reply(Reply {
-        vote,
-        outcome: u64_at(parts.bodies, 14),
-    }))
-}
-
-fn read_closing<'a>(config: ClusterConfig, parts: Parts<'a>) -> Result<Message<'a>, ReadFault>
-    requires { 2 ≤ length parts.bodies.now }
-    ensures says { said result ≡ stated parts.entry.replica (closed config parts.entry.view parts.entry.bodies.now) }
-    ensures holds { Holds parts.entry.contents.now parts.entry.bodies.now result }
-{
-    let mask = u16_at(parts.bodies, 0);
-    if !may_close(config, mask) {
-        return Err(ReadFault::Field(13));
+impl<'a> Parts<'a> {
+    fn read_vote(self) -> Result<Vote<'a>, ReadFault>
+        requires { (4 ≤ length self.contents.now) × (14 ≤ length self.bodies.now) }
+        ensures { MatchResult result
+            (λ v. (v.replica ≡ self.entry.replica)
+            × (v.view ≡ self.entry.view)
+            × (v.number ≡ num self.entry.contents.now 0 4)
+            × (request_read 13 self.entry.bodies.now ≡ Ok v.request)
+            × (v.contents.now ≡ self.entry.contents.now)
+            × (v.body.now ≡ self.entry.bodies.now))
+            (λ fault. request_read 13 self.entry.bodies.now ≡ Err fault) }
+    {
+        Ok(Vote {
+            replica: self.replica,
+            view: self.view,
+            number: u32::from_be_bytes(bytes_at(self.contents, 0)),
+            request: read_request(13, self.bodies)?,
+            contents: self.contents,
+            body: self.bodies,
+        })
     }
-    Ok(Message::Closing(Closing {
-        replica: parts.replica,
-        view: parts.view,
-        mask,
-        contents: parts.contents,
-        body: parts.bodies,
-    }))
-}
 
-fn read_report<'a>(parts: Parts<'a>) -> Result<Message<'a>, ReadFault>
-    requires { length parts.bodies.now ≡ 18 * parts.rows }
-    ensures says { said result ≡ stated parts.entry.replica (reported parts.entry.view parts.entry.rows parts.entry.bodies.now) }
-    ensures holds { Holds parts.entry.contents.now parts.entry.bodies.now result }
-{
-    check_entries(
-        parts.view,
-        parts.rows,
-        7 + 6 * usize::from(parts.rows),
-        parts.bodies,
-    )?;
-    Ok(Message::Report(Report {
-        replica: parts.replica,
-        view: parts.view,
-        contents: parts.contents,
-        bodies: parts.bodies,
-    }))
-}
+    fn read_reply(self) -> Result<Message<'a>, ReadFault>
+        requires { (4 ≤ length self.contents.now) × (22 ≤ length self.bodies.now) }
+        ensures says { said result ≡ stated self.entry.replica (replied self.entry.view self.entry.contents.now self.entry.bodies.now) }
+        ensures holds { Holds self.entry.contents.now self.entry.bodies.now result }
+    {
+        Ok(Message::Reply(Reply {
+            vote: self.read_vote()?,
+            outcome: u64::from_be_bytes(bytes_at(self.bodies, 14)),
+        }))
+    }
 
-// What the bodies state, by kind.
-pub(crate) fn read_bodies<'a>(
-    config: ClusterConfig,
-    kind: Kind,
-    parts: Parts<'a>,
-) -> Result<Message<'a>, ReadFault>
-    requires rows_value { may_count kind parts.rows ≡ true }
-    requires contents_len { length parts.contents.now ≡ 6 * parts.rows }
-    requires bodies_len { length parts.bodies.now ≡ parts.rows * body_length kind }
-    ensures says { said result ≡ stated parts.entry.replica (bodies_read config kind parts.entry.view parts.entry.rows parts.entry.contents.now parts.entry.bodies.now) }
-    ensures holds { Holds parts.entry.contents.now parts.entry.bodies.now result }
-{
-    match kind {
-        Kind::Prepare => Ok(Message::Prepare(read_vote(parts)?)),
-        Kind::Commit => Ok(Message::Commit(read_vote(parts)?)),
-        Kind::Doubt => Ok(Message::Doubt(Doubt {
-            replica: parts.replica,
-            view: parts.view,
-        })),
-        Kind::Report => read_report(parts),
-        Kind::Closing => read_closing(config, parts),
-        Kind::Reply => read_reply(parts),
+    fn read_closing(self, config: ClusterConfig) -> Result<Message<'a>, ReadFault>
+        requires { 2 ≤ length self.bodies.now }
+        ensures says { said result ≡ stated self.entry.replica (closed config self.entry.view self.entry.bodies.now) }
+        ensures holds { Holds self.entry.contents.now self.entry.bodies.now result }
+    {
+        let mask = u16::from_be_bytes(bytes_at(self.bodies, 0));
+        if !may_close(config, mask) {
+            return Err(ReadFault::Field(13));
+        }
+        Ok(Message::Closing(Closing {
+            replica: self.replica,
+            view: self.view,
+            mask,
+            contents: self.contents,
+            body: self.bodies,
+        }))
+    }
+
+    fn read_report(self) -> Result<Message<'a>, ReadFault>
+        requires { length self.bodies.now ≡ 18 * self.rows }
+        ensures says { said result ≡ stated self.entry.replica (reported self.entry.view self.entry.rows self.entry.bodies.now) }
+        ensures holds { Holds self.entry.contents.now self.entry.bodies.now result }
+    {
+        check_entries(self.view, 7 + 6 * usize::from(self.rows), self.bodies)?;
+        Ok(Message::Report(Report {
+            replica: self.replica,
+            view: self.view,
+            contents: self.contents,
+            bodies: self.bodies,
+        }))
+    }
+
+    // What the bodies state, by kind.
+    fn read_bodies(self, config: ClusterConfig) -> Result<Message<'a>, ReadFault>
+        ensures says { said result ≡ stated self.entry.replica (bodies_read config self.entry.kind self.entry.view self.entry.rows self.entry.contents.now self.entry.bodies.now) }
+        ensures holds { Holds self.entry.contents.now self.entry.bodies.now result }
+    {
+        match self.kind {
+            Kind::Prepare => Ok(Message::Prepare(self.read_vote()?)),
+            Kind::Commit => Ok(Message::Commit(self.read_vote()?)),
+            Kind::Doubt => Ok(Message::Doubt(Doubt {
+                replica: self.replica,
+                view: self.view,
+            })),
+            Kind::Report => self.read_report(),
+            Kind::Closing => self.read_closing(config),
+            Kind::Reply => self.read_reply(),
+        }
+    }
+
+    // The fields in byte order.
+    pub(crate) fn read_fields(self, config: ClusterConfig) -> Result<Message<'a>, ReadFault>
+        ensures says { said result ≡ fields_read config self.entry.kind self.entry.replica self.entry.view self.entry.rows self.entry.contents.now self.entry.bodies.now }
+        ensures holds { Holds self.entry.contents.now self.entry.bodies.now result }
+    {
+        if self.replica >= config.n() {
+            return Err(ReadFault::Field(1));
+        }
+        if self.view > LAST_VIEW {
+            return Err(ReadFault::Field(2));
+        }
+        check_rows(self.kind, self.contents)?;
+        self.read_bodies(config)
     }
 }

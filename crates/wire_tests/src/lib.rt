@@ -31,7 +31,7 @@ mod tests {
             Ok(_) => Err(Fail::new("it reads")),
             Err(fault) => {
                 assert_eq!(rt;
-                    fault.refusal(),
+                    Refusal::from(fault),
                     Refusal {
                         number,
                         layer: Layer::Reader,

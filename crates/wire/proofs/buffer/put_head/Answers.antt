@@ -11,7 +11,7 @@ returns c =
     let who = kind_number c.args.kind ∷ c.args.replica ∷ [] in
     let view = be 4 c.args.view in
     let rows = c.args.rows ∷ [] in
-    let first = c.put.ensures ∙ ap (λ (k : ℕ). over 0 (k ∷ c.args.replica ∷ []) out) c.number.ensures in
+    let first = c.put.ensures ∙ ap (λ (k : ℕ). over 0 (k ∷ c.args.replica ∷ []) out) c.from.ensures in
     c.put-2.ensures
     ∙ ap (over 6 rows) (c.put_u32.ensures ∙ ap (over 2 view) first ∙ over_over 0 who view out (omega arith))
     ∙ over_over 0 (who ++ view) rows out (omega arith)

@@ -1,17 +1,12 @@
-use Rattle.std.proofs.Common.{arith}
-use Rattle.std.proofs.lemmas.Bool.{eq-eqb, ne_eqb}
+use Rattle.std.proofs.Common.{◌∙◌, arith, rules}
+use Rattle.std.proofs.lemmas.Iterator.{YieldsList-from_range}
+use Rattle.std.proofs.lemmas.Iterator.Consumers.{YieldsList-from_filter, count_from_yields_List}
 use Rattle.wire.specs.Counting.{names}
-use Rattle.wire.proofs.Counts.{count_yes, count_no}
+use Rattle.wire.proofs.Counts.{length-filter-below}
 use Rattle.wire.proofs.mask.count_named.Goals as goal
-use Rattle.wire.proofs.mask.count_named.Goals.{then-mask-replica-eq1, else-mask-replica-eq1}
 
-pub loop-replica-preserved : goal.loop-replica-preserved
-loop-replica-preserved c =
-    elim c.if-mask-replica-eq1.branch [
-      | then-mask-replica-eq1 w ↦
-          let e = count_yes c.loop-replica.replica (names c.args.mask) (eq-eqb _ _ w.if-mask-replica-eq1.true) in
-          (omega (arith, w.named-is, e), omega (arith, w.named-is))
-      | else-mask-replica-eq1 w ↦
-          let e = count_no c.loop-replica.replica (names c.args.mask) (ne_eqb _ _ w.if-mask-replica-eq1.false) in
-          (omega (arith, w.named-is, e), omega (arith, w.named-is))
-    ]
+pub returns : goal.returns
+returns c =
+    count_from_yields_List _ _ c.count.ensures.ran
+    (YieldsList-from_filter _ (names c.args.mask) (YieldsList-from_range 0 c.args.n c.args.n (search rules) (omega arith)) c.filter.ensures.closure (λ x r q k. search rules))
+    ∙ length-filter-below (names c.args.mask) c.args.n

@@ -1,16 +1,14 @@
-use Rattle.std.proofs.Common.{Err, sym, ap, ◌∙◌}
+use Rattle.std.proofs.Common.{◌≡◌, Err, arith, rules}
 use Rattle.std.proofs.lemmas.Result.{err_from_is_err_and}
 use Rattle.wire.specs.Reading.{checked, row_read}
-use Rattle.wire.proofs.Steps.{part_at, stop, go_on}
+use Rattle.wire.proofs.Steps.{callable, checked_is, row_alone}
 use Rattle.wire.proofs.reader.check_rows.Goals as goal
 
-pub returns-in_err-check_row : goal.returns-in_err-check_row
-returns-in_err-check_row c =
-    let p = err_from_is_err_and c.from_residual.result c.from_residual.ensures.1 in
-    let cut = part_at 6 _ _ _ _ c.from.ensures c.split_at.ensures.back in
-    p.1 ∙ ap Err p.2 ∙ stop 6 (row_read c.args.kind) _ _ _ _ c.loop-row-test.true cut c.loop-row.invariant _ (ap checked (sym c.check_row.ensures ∙ c.in_err-check_row.was))
+pub try_for_each-requires-clause-callable : goal.try_for_each-requires-clause-callable
+try_for_each-requires-clause-callable c =
+    callable 6 _ _ _ c.args.contents.now (search rules) (search rules) (search rules) (λ x q e. search rules) (λ x long within. search (rules, arith))
 
-pub loop-row-preserved : goal.loop-row-preserved
-loop-row-preserved c =
-    let cut = part_at 6 _ _ _ _ c.from.ensures c.split_at.ensures.back in
-    go_on 6 (row_read c.args.kind) _ _ _ _ c.loop-row-test.true cut c.loop-row.invariant (ap checked (sym c.check_row.ensures ∙ c.in_ok-check_row.was))
+pub returns : goal.returns
+returns c =
+    checked_is 6 _ _ (row_read c.args.kind) _ (omega arith) (row_alone c.args.kind) (λ x q e. search rules) (λ e. search rules)
+    (λ x e. let p = err_from_is_err_and c.try_for_each.result e.5.1 in let same : checked (row_read c.args.kind x.0 x.1.now) ≡ Err p.0 = search rules in (p.0, p.1, same)) _ _ c.args.contents.now (search rules) (search rules) (search rules) c.try_for_each.ensures.ran
