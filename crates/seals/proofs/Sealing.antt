@@ -1,11 +1,12 @@
 -- Sealing as it moves the set of sealed pairs.
-use Rattle.std.proofs.Common.{◌≡◌, ℕ, Bool, true, false, not, ◌||◌, eqb, List, [], ◌∷◌, ◌++◌, length, Ok, Err, sym, refl, ap, ◌∙◌}
+use Rattle.std.proofs.Common.{◌≡◌, ℕ, Bool, true, false, ◌||◌, eqb, List, [], ◌∷◌, ◌++◌, length, Ok, Err, Result, sym, refl, ap, ◌∙◌}
 use mathlib.Core.Path.{fun_ext}
 use Rattle.std.specs.Str.{bytes_eq}
-use Rattle.std.proofs.lemmas.Bool.{eqb-true, and_parts, and_from, and_left, and_right, or_left, or_right, or_from, not_from_true, not_from_false, cond-true, cond-false}
+use Rattle.std.proofs.lemmas.Bool.{eqb-true, and_parts, both_ways, cond-true, or_right}
 use Rattle.std.proofs.lemmas.Slice.Eq.{bytes_eq-Decides}
+use Rattle.seals.specs.declared.fault.RegisterFault.{RegisterFault}
 use Rattle.seals.specs.declared.fault.RegisterFault.TheVariants.{Full}
-use Rattle.seals.specs.Registers.{Pair, is_pair, added, adds, among, sealing}
+use Rattle.seals.specs.Registers.{Pair, RegisterState, is_pair, added, after_sealing, among, sealing, with_pair}
 
 or_false : (b : Bool) → (b || false) ≡ b
 or_false true = refl
@@ -44,22 +45,39 @@ among_push ps replica bytes = fun_ext (λ r. fun_ext (λ bs. at_pair ps r bs))
     at_pair [] r bs = or_false (is_pair (replica, bytes) r bs)
     at_pair (q ∷ qs) r bs = ap (λ b. is_pair q r bs || b) (at_pair qs r bs) ∙ or_assoc (is_pair q r bs) (among qs r bs) (is_pair (replica, bytes) r bs)
 
+-- what `seal` owes: its answer, what it leaves, and that it accepts what fits
+pub record Seals (state state' : RegisterState) (replica : ℕ) (bytes : List ℕ) (result : Result Unit RegisterFault) : Type 0 where
+  pub answer : result ≡ sealing state replica bytes
+  pub leaves : state' ≡ after_sealing state replica bytes
+  pub succeeds : state.fits (length bytes) ≡ true → result ≡ Ok tt
+
 -- the three ways of sealing: a known pair, a new one that fits, and a new one that does not
-module _ (sealed : ℕ → List ℕ → Bool) (fits : ℕ → Bool) (replica : ℕ) (bytes : List ℕ) where
-  pub known_answer : sealed replica bytes ≡ true → sealing sealed fits replica bytes ≡ Ok tt
-  known_answer k = cond-true _ _ _ (or_left (sealed replica bytes) (fits (length bytes)) k)
+module _ (state : RegisterState) (replica : ℕ) (bytes : List ℕ) where
+  pub known : state.sealed replica bytes ≡ true → Seals state state replica bytes (Ok tt)
+  known k = record { answer = rw k; leaves = rw k; succeeds = λ _. refl }
 
-  pub known_adds : sealed replica bytes ≡ true → adds sealed fits replica bytes ≡ false
-  known_adds k = and_left (not (sealed replica bytes)) (fits (length bytes)) (not_from_true (sealed replica bytes) k)
+  pub new : state.sealed replica bytes ≡ false → state.fits (length bytes) ≡ true → Seals state (with_pair state replica bytes) replica bytes (Ok tt)
+  new n f = record { answer = rw (n, f); leaves = rw (n, f); succeeds = λ _. refl }
 
-  pub fits_answer : fits (length bytes) ≡ true → sealing sealed fits replica bytes ≡ Ok tt
-  fits_answer f = cond-true _ _ _ (or_right (sealed replica bytes) (fits (length bytes)) f)
+  pub full : state.sealed replica bytes ≡ false → state.fits (length bytes) ≡ false → Seals state state replica bytes (Err Full)
+  full n f = record { answer = rw (n, f); leaves = rw (n, f); succeeds = λ t. absurd (both_ways _ f t) }
 
-  pub new_adds : sealed replica bytes ≡ false → fits (length bytes) ≡ true → adds sealed fits replica bytes ≡ true
-  new_adds n f = and_from (not (sealed replica bytes)) (fits (length bytes)) (not_from_false (sealed replica bytes) n) f
+  pub fits_accepted : state.fits (length bytes) ≡ true → sealing state replica bytes ≡ Ok tt
+  fits_accepted f = rw f (cond-true _ _ _ (or_right (state.sealed replica bytes) true refl))
 
-  pub full_answer : sealed replica bytes ≡ false → fits (length bytes) ≡ false → sealing sealed fits replica bytes ≡ Err Full
-  full_answer n f = cond-false _ _ _ (or_from (sealed replica bytes) (fits (length bytes)) n f)
+  -- an accepted pair is sealed beside those before, and a refused one alters nothing
+  pub accepted : sealing state replica bytes ≡ Ok tt → (after_sealing state replica bytes).sealed ≡ added state.sealed replica bytes
+  accepted e = by_tests (state.sealed replica bytes) (state.fits (length bytes)) refl refl
+    where
+      by_tests : (k f : Bool) → state.sealed replica bytes ≡ k → state.fits (length bytes) ≡ f → (after_sealing state replica bytes).sealed ≡ added state.sealed replica bytes
+      by_tests true f p q = rw (p) (added_known state.sealed replica bytes p)
+      by_tests false true p q = rw (p, q)
+      by_tests false false p q = let r : sealing state replica bytes ≡ Err Full = rw (p, q) in let z : ⊥ = cc in absurd z
 
-  pub full_adds : fits (length bytes) ≡ false → adds sealed fits replica bytes ≡ false
-  full_adds f = and_right (not (sealed replica bytes)) (fits (length bytes)) f
+  pub refused : sealing state replica bytes ≡ Err Full → after_sealing state replica bytes ≡ state
+  refused e = by_tests (state.sealed replica bytes) (state.fits (length bytes)) refl refl
+    where
+      by_tests : (k f : Bool) → state.sealed replica bytes ≡ k → state.fits (length bytes) ≡ f → after_sealing state replica bytes ≡ state
+      by_tests true f p q = rw p
+      by_tests false true p q = let r : sealing state replica bytes ≡ Ok tt = rw (p, q) in let z : ⊥ = cc in absurd z
+      by_tests false false p q = rw (p, q)

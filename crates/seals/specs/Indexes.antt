@@ -1,17 +1,13 @@
 -- What an indexed journal means as a register.
 use Rattle.std.specs.Prelude.{ℕ, Bool, false, ◌&&◌, List, [], length, Some, None, Option, nat_lt}
 use Rattle.seals.specs.declared.index.IndexedJournal.{IndexedJournal}
-use Rattle.seals.specs.Registers.{Pair, among}
+use Rattle.seals.specs.Registers.{Pair, RegisterState, among}
 use Rattle.seals.specs.Logs.{entry_at, new_place, place}
 use Rattle.seals.specs.Slots.{contents, empty_slot, pairs_in}
 
 -- what the slots of an index hold
 abbrev pub index_contents : IndexedJournal → List (Option Pair)
 index_contents x = contents (entry_at x.log) x.slots.offsets.now
-
--- an index has sealed what its slots hold
-abbrev pub index_sealed : IndexedJournal → ℕ → List ℕ → Bool
-index_sealed x = among (pairs_in (index_contents x))
 
 -- a slot can hold the offset
 abbrev pub holdable : Option ℕ → Bool
@@ -22,13 +18,14 @@ holdable (Some offset) = nat_lt offset empty_slot
 abbrev pub slots_fit : ℕ → (List Pair → ℕ → Option ℕ) → List Pair → ℕ → Bool
 slots_fit empty place_of ps n = nat_lt (length ps) empty && holdable (place_of ps n)
 
--- what fits once these pairs are sealed
-abbrev pub index_then_fits : IndexedJournal → List Pair → ℕ → Bool
-index_then_fits x = slots_fit x.empty (place x.log)
-
--- what fits now
-abbrev pub index_fits : IndexedJournal → ℕ → Bool
-index_fits x = index_then_fits x []
+-- an index has sealed what its slots hold, and what its slots and the log have room for fits
+abbrev pub index_state : IndexedJournal → RegisterState
+index_state x =
+    record {
+      sealed = among (pairs_in (index_contents x));
+      fits = slots_fit x.empty (place x.log) [];
+      then_fits = slots_fit x.empty (place x.log);
+    }
 
 -- what fits into a new index of so many bytes and slots, once these pairs are sealed
 abbrev pub new_index_fits : ℕ → ℕ → List Pair → ℕ → Bool

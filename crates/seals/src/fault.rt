@@ -12,11 +12,11 @@ pub enum RegisterFault {
     Full,
 }
 
-impl RegisterFault {
-    pub fn refusal(&self) -> Refusal
-        ensures { result ≡ refusal_of self.now }
-    {
-        let number = match *self {
+impl From<RegisterFault> for Refusal {
+    ghost from_gives = { λ fault r. r ≡ refusal_of fault };
+
+    fn from(fault: RegisterFault) -> Refusal {
+        let number = match fault {
             RegisterFault::Unknown => 4,
             RegisterFault::Full => 5,
         };

@@ -1,7 +1,7 @@
 // The indexed journal as a register.
 ghost use Rattle.std.specs.Prelude.{◌≡◌, ◌<◌, length, slice_set};
 ghost use Rattle.seals.specs.Registers.{nothing};
-ghost use Rattle.seals.specs.Indexes.{holdable, index_fits, index_sealed, index_then_fits, new_index_fits};
+ghost use Rattle.seals.specs.Indexes.{holdable, index_state, new_index_fits};
 
 use crate::fault::RegisterFault;
 use crate::index::{EMPTY, IndexedJournal, Slots};
@@ -12,8 +12,8 @@ use crate::register::Register;
 impl<'a> IndexedJournal<'a> {
     // an empty journal and empty slots, whatever memory and slots held
     pub fn new(memory: &'a mut [u8], slots: &'a mut [u32]) -> IndexedJournal<'a>
-        ensures nothing_sealed { index_sealed result ≡ nothing }
-        ensures room { index_then_fits result ≡ new_index_fits (length memory.old) (length slots.old) }
+        ensures nothing_sealed { (index_state result).sealed ≡ nothing }
+        ensures room { (index_state result).then_fits ≡ new_index_fits (length memory.old) (length slots.old) }
     {
         slots.fill(EMPTY);
         let empty = slots.len();
@@ -35,11 +35,7 @@ impl<'a> Slots<'a> {
 }
 
 impl<'a> Register for IndexedJournal<'a> {
-    ghost sealed = { index_sealed };
-
-    ghost fits = { index_fits };
-
-    ghost then_fits = { index_then_fits };
+    ghost state = { index_state };
 
     fn is_sealed(&mut self, replica: u8, bytes: &[u8]) -> bool {
         match look_up(&self.log, &self.slots, replica, bytes) {

@@ -1,7 +1,7 @@
 // The journal as a register.
 ghost use Rattle.std.specs.Prelude.{◌≡◌, length};
 ghost use Rattle.seals.specs.Registers.{nothing};
-ghost use Rattle.seals.specs.Journals.{journal_fits, journal_sealed, journal_then_fits, new_journal_fits};
+ghost use Rattle.seals.specs.Journals.{journal_state, new_journal_fits};
 
 use crate::fault::RegisterFault;
 use crate::journal::Journal;
@@ -11,8 +11,8 @@ use crate::register::Register;
 impl<'a> Journal<'a> {
     // an empty journal, whatever the memory held
     pub fn new(memory: &'a mut [u8]) -> Journal<'a>
-        ensures nothing_sealed { journal_sealed result ≡ nothing }
-        ensures room { journal_then_fits result ≡ new_journal_fits (length memory.old) }
+        ensures nothing_sealed { (journal_state result).sealed ≡ nothing }
+        ensures room { (journal_state result).then_fits ≡ new_journal_fits (length memory.old) }
     {
         Journal {
             log: EntryLog::new(memory),
@@ -21,11 +21,7 @@ impl<'a> Journal<'a> {
 }
 
 impl<'a> Register for Journal<'a> {
-    ghost sealed = { journal_sealed };
-
-    ghost fits = { journal_fits };
-
-    ghost then_fits = { journal_then_fits };
+    ghost state = { journal_state };
 
     fn is_sealed(&mut self, replica: u8, bytes: &[u8]) -> bool {
         contains(self.log.in_use(), replica, bytes)

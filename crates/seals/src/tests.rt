@@ -3,6 +3,7 @@ use crate::fnv::{fnv1a, fnv1a_pair};
 use crate::index::IndexedJournal;
 use crate::journal::Journal;
 use crate::register::Register;
+use refusals::Refusal;
 use std::process::Abort;
 use std::test::Fail;
 
@@ -41,7 +42,7 @@ fn refuses<R: Register>(
     match register.seal(replica, bytes) {
         Ok(()) => Err(Fail::new("sealed")),
         Err(fault) => {
-            assert_eq!(rt; fault.refusal().number, 5);
+            assert_eq!(rt; Refusal::from(fault).number, 5);
             Ok(())
         },
     }

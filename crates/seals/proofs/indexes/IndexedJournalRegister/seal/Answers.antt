@@ -1,11 +1,11 @@
-use Rattle.std.proofs.Common.{◌≡◌, ◌+◌, ◌-◌, ◌<◌, true, false, [], length, set, is_some, Some, sym, refl, ap, ◌∙◌, subst, arith}
+use Rattle.std.proofs.Common.{◌≡◌, ◌+◌, ◌-◌, ◌<◌, true, false, [], length, set, is_some, Some, sym, ap, ◌∙◌, subst, arith}
 use mathlib.Core.Path.{fun_ext}
 use Rattle.std.proofs.lemmas.List.{length-map}
-use Rattle.std.proofs.lemmas.Bool.{both_ways, cond-true, cond-false, ltb-true}
-use Rattle.seals.specs.Registers.{Pair, after, among}
+use Rattle.std.proofs.lemmas.Bool.{cond-true, ltb-true}
+use Rattle.seals.specs.Registers.{Pair, added, after, among}
 use Rattle.seals.specs.Logs.{entry_at, place}
 use Rattle.seals.specs.Slots.{content, contents, empty_slot, filled, is_known, pairs_in, Reached, vacant}
-use Rattle.seals.specs.Indexes.{holdable, index_contents, index_fits, index_sealed}
+use Rattle.seals.specs.Indexes.{holdable, index_contents, index_state}
 use Rattle.seals.proofs.Sealing as sealing
 use Rattle.seals.proofs.Filling.{contents_put, filled_set, vacant_fill, vacant_some}
 use Rattle.seals.proofs.Fitting.{fits_after, fits_full, fits_some}
@@ -18,31 +18,19 @@ returns-in-Known c =
     let x = c.args.self.now in
     let r = c.args.replica in
     let b = c.args.bytes.now in
-    let k : index_sealed x r b ≡ true = sym (x.reached r b) ∙ sym (ap is_known c.in-Known.ensures) in
-    let a = sealing.known_adds (index_sealed x) (index_fits x) r b k in
-    record {
-      answer = sym (sealing.known_answer (index_sealed x) (index_fits x) r b k);
-      pairs = sealing.added_known (index_sealed x) r b k;
-      room = sym (cond-false _ _ _ a);
-      later = sym (cond-false _ _ _ a);
-      succeeds = λ _. refl;
-    }
+    let k : (index_state x).sealed r b ≡ true = sym (x.reached r b) ∙ sym (ap is_known c.in-Known.ensures) in
+    let s = sealing.known (index_state x) r b k in
+    record { answer = s.answer; leaves = s.leaves; succeeds = s.succeeds }
 
 pub returns-in-Full : goal.returns-in-Full
 returns-in-Full c =
     let x = c.args.self.now in
     let r = c.args.replica in
     let b = c.args.bytes.now in
-    let n : index_sealed x r b ≡ false = sym (x.reached r b) ∙ sym (ap is_known c.in-Full.ensures) in
-    let f : index_fits x (length b) ≡ false = fits_full x.empty (place x.log) (length b) (x.counted ∙ full_slots (index_contents x) r b (sym c.in-Full.ensures)) in
-    let a = sealing.full_adds (index_sealed x) (index_fits x) r b f in
-    record {
-      answer = sym (sealing.full_answer (index_sealed x) (index_fits x) r b n f);
-      pairs = refl;
-      room = sym (cond-false _ _ _ a);
-      later = sym (cond-false _ _ _ a);
-      succeeds = λ t. absurd (both_ways (index_fits x (length b)) f t);
-    }
+    let n : (index_state x).sealed r b ≡ false = sym (x.reached r b) ∙ sym (ap is_known c.in-Full.ensures) in
+    let f = fits_full x.empty (place x.log) (length b) (x.counted ∙ full_slots (index_contents x) r b (sym c.in-Full.ensures)) in
+    let s = sealing.full (index_state x) r b n f in
+    record { answer = s.answer; leaves = s.leaves; succeeds = s.succeeds }
 
 pub put-requires : goal.put-requires
 put-requires c =
@@ -105,17 +93,12 @@ returns c =
     let f = free_slot (index_contents x) r b k free in
     let v : 0 < vacant (index_contents x) = vacant_some (index_contents x) k f.1 f.0 in
     let l : x.empty ≡ vacant (index_contents x) = x.counted in
-    let s : 0 < x.empty = omega arith in
-    let n : index_sealed x r b ≡ false = sym (x.reached r b) ∙ ap is_known free in
+    let room : 0 < x.empty = omega arith in
+    let n : (index_state x).sealed r b ≡ false = sym (x.reached r b) ∙ ap is_known free in
     let h : holdable (place x.log [] (length b)) ≡ true = ap holdable (sym c.offset_for.ensures) ∙ sym c.is_holdable.ensures ∙ c.if-not-is_holdable.false in
-    let t : index_fits x (length b) ≡ true = fits_some x.empty (place x.log) (length b) s h in
-    let a = sealing.new_adds (index_sealed x) (index_fits x) r b n t in
+    let s = sealing.new (index_state x) r b n (fits_some x.empty (place x.log) (length b) room h) in
     let e : place c.append.new.self ≡ after (place x.log) (r, b) = c.append.ensures.room ∙ cond-true _ _ _ (ap is_some c.unwrap-offset.ensures) in
-    let g = fits_after x.empty (r, b) (place x.log) (place c.append.new.self) s e in
-    record {
-      answer = sym (sealing.fits_answer (index_sealed x) (index_fits x) r b t);
-      pairs = ap (λ cs. among (pairs_in cs)) (put_content (goal.at.returns c).After-put) ∙ fun_ext (λ q. fun_ext (λ bs. fill_held (index_contents x) r b k x.reached free q bs));
-      room = ap (λ says. says []) g ∙ sym (cond-true _ _ _ a);
-      later = g ∙ sym (cond-true _ _ _ a);
-      succeeds = λ _. refl;
-    }
+    let g = fits_after x.empty (r, b) (place x.log) (place c.append.new.self) room e in
+    let p : among (pairs_in (contents (entry_at c.append.new.self) c.put.new.self.offsets.now)) ≡ added (among (pairs_in (index_contents x))) r b =
+    ap (λ cs. among (pairs_in cs)) (put_content (goal.at.returns c).After-put) ∙ fun_ext (λ q. fun_ext (λ bs. fill_held (index_contents x) r b k x.reached free q bs)) in
+    record { answer = s.answer; leaves = rw (p, g) s.leaves; succeeds = s.succeeds }
