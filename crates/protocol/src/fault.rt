@@ -7,7 +7,7 @@ use refusals::{Layer, Refusal};
 use seals::fault::RegisterFault;
 use wire::fault::ReadFault;
 
-#[derive(Clone, Copy, PartialEq, Debug)]
+#[derive(Clone, Copy, PartialEq, Eq, Debug)]
 pub enum ReplicaFault {
     // the reader's own fault, or a setting outside its range
     Read(ReadFault),
@@ -60,8 +60,8 @@ impl From<ReplicaFault> for Refusal {
 
     fn from(fault: ReplicaFault) -> Refusal {
         let (number, place) = match fault {
-            ReplicaFault::Read(fault) => return fault.refusal(),
-            ReplicaFault::Register(fault) => return fault.refusal(),
+            ReplicaFault::Read(fault) => return Refusal::from(fault),
+            ReplicaFault::Register(fault) => return Refusal::from(fault),
             ReplicaFault::WrongView => (6, 0),
             ReplicaFault::NotAllowed => (7, 0),
             ReplicaFault::NotEntitled => (8, 0),
