@@ -1,40 +1,35 @@
 -- Logs put together by the highest view for each number: each entry is one of theirs, and none of theirs is of a higher view.
-use Rattle.std.proofs.Common.{◌≡◌, ℕ, zero, suc, ◌<◌, Bool, true, false, cond, T, ltb, ◌⊎◌, List, [], ◌∷◌, Some, refl, inl, inr, ⊎_elim, not-suc-le-zero, arith}
-use Rattle.std.proofs.lemmas.Bool.Decides.{nat_tests}
+use Rattle.std.proofs.Common.{◌≡◌, ℕ, zero, suc, ◌<◌, Bool, cond, T, ltb, List, [], ◌∷◌, Some, refl, ap, ◌∙◌, sym, arith}
+use Rattle.std.specs.List.{slice_get}
 use Rattle.wire.specs.declared.entry.LogEntry.{LogEntry}
 use Rattle.protocol.specs.Numbers.{at_number}
 use Rattle.protocol.specs.Rules.{HasEntry}
-use Rattle.protocol.proofs.Tests.{last_or_below}
+use Rattle.protocol.specs.Selecting.{later, latest}
+use Rattle.protocol.proofs.Choosing.{latest_from, latest_no_lower}
 
-higher : LogEntry → LogEntry → LogEntry
-higher d e = cond (ltb d.view e.view) e d
-
+-- two logs in one, with the later entry for each number
 merged : List LogEntry → List LogEntry → List LogEntry
 merged [] es = es
 merged (d ∷ ds) [] = d ∷ ds
-merged (d ∷ ds) (e ∷ es) = higher d e ∷ merged ds es
+merged (d ∷ ds) (e ∷ es) = cond (ltb d.view e.view) e d ∷ merged ds es
 
-none_at : (number : ℕ) (e : LogEntry) → at_number [] number ≡ Some e → ⊥
-none_at zero e q = cc
-none_at (suc k) e q = cc
+merged_at : (ds es : List LogEntry) (k : ℕ) → slice_get (merged ds es) k ≡ later (slice_get ds k) (slice_get es k)
+unfolding merged
+merged_at [] es k = refl
+merged_at (d ∷ ds) [] k = grind arith
+merged_at (d ∷ ds) (e ∷ es) zero = grind arith
+merged_at (d ∷ ds) (e ∷ es) (suc k) = merged_at ds es k
 
-merged_no_lower : (view : ℕ) (ds es : List LogEntry) (n : ℕ) → HasEntry ds n view ⊎ HasEntry es n view → HasEntry (merged ds es) n view
-unfolding merged higher
-merged_no_lower view [] es n (inl h) = absurd (none_at n h.0 h.1)
-merged_no_lower view [] es n (inr h) = h
-merged_no_lower view (d ∷ ds) [] n (inl h) = h
-merged_no_lower view (d ∷ ds) [] n (inr h) = absurd (none_at n h.0 h.1)
-merged_no_lower view (d ∷ ds) (e ∷ es) zero h = grind arith
-merged_no_lower view (d ∷ ds) (e ∷ es) (suc zero) h = (higher d e, refl, grind (arith, nat_tests))
-merged_no_lower view (d ∷ ds) (e ∷ es) (suc (suc k)) h = merged_no_lower view ds es (suc k) h
+-- the logs of all replicas below n that pass a test in one
+together : (n : ℕ) (passes : ℕ → Bool) (log : ℕ → List LogEntry) → List LogEntry
+together zero passes log = []
+together (suc n) passes log = merged (together n passes log) (cond (passes n) (log n) [])
 
-merged_from : (ds es : List LogEntry) (n : ℕ) (x : LogEntry) → at_number (merged ds es) n ≡ Some x → (at_number ds n ≡ Some x) ⊎ (at_number es n ≡ Some x)
-unfolding merged higher
-merged_from [] es n x h = inr h
-merged_from (d ∷ ds) [] n x h = inl h
-merged_from (d ∷ ds) (e ∷ es) zero x h = inl h
-merged_from (d ∷ ds) (e ∷ es) (suc zero) x h = grind arith
-merged_from (d ∷ ds) (e ∷ es) (suc (suc k)) x h = merged_from ds es (suc k) x h
+together_at : (n : ℕ) (passes : ℕ → Bool) (log : ℕ → List LogEntry) (k : ℕ)
+    → slice_get (together n passes log) k ≡ latest n (λ h. slice_get (cond (passes h) (log h) []) k)
+unfolding together
+together_at zero passes log k = refl
+together_at (suc n) passes log k = merged_at (together n passes log) _ k ∙ ap (λ o. later o (slice_get (cond (passes n) (log n) []) k)) (together_at n passes log k)
 
 -- one log for those of all replicas below n that pass a test
 pub record Best (n : ℕ) (passes : ℕ → Bool) (log : ℕ → List LogEntry) : Type 0 where
@@ -44,23 +39,16 @@ pub record Best (n : ℕ) (passes : ℕ → Bool) (log : ℕ → List LogEntry) 
       → (h : ℕ) × (h < n) × T (passes h) × (at_number (log h) number ≡ Some e)
 
 pub best : (n : ℕ) (passes : ℕ → Bool) (log : ℕ → List LogEntry) → Best n passes log
-best zero passes log =
-    record { entries = []; no_lower = λ h number view l. absurd (not-suc-le-zero l); from_one = λ number e q. absurd (none_at number e q) }
-best (suc n) passes log = go (passes n) refl (best n passes log)
+best n passes log = record { entries = together n passes log; no_lower = no_lower; from_one = from_one }
   where
-    go : (t : Bool) → passes n ≡ t → Best n passes log → Best (suc n) passes log
-    go true t b =
-        record {
-          entries = merged b.entries (log n);
-          no_lower = λ h number view l p has.
-              merged_no_lower view b.entries (log n) number
-              (⊎_elim (λ (same : h ≡ n). inr (rw same at has)) (λ below. inl (b.no_lower h number view below p has)) (last_or_below h n l));
-          from_one = λ number e q. grind (arith, merged_from b.entries (log n) number e, b.from_one number e);
-        }
-    go false t b =
-        record {
-          entries = b.entries;
-          no_lower = λ h number view l p has.
-              ⊎_elim (λ (same : h ≡ n). absurd (rw (same, t) at p)) (λ below. b.no_lower h number view below p has) (last_or_below h n l);
-          from_one = λ number e q. grind (arith, b.from_one number e);
-        }
+    no_lower : (h number view : ℕ) → h < n → T (passes h) → HasEntry (log h) number view → HasEntry (together n passes log) number view
+    no_lower h zero view l p has = absurd (grind arith)
+    no_lower h (suc k) view l p has =
+        rw (together_at n passes log k) (latest_no_lower n (λ h. slice_get (cond (passes h) (log h) []) k) h view l (has.0, grind arith, has.2))
+
+    from_one : (number : ℕ) (e : LogEntry) → at_number (together n passes log) number ≡ Some e
+        → (h : ℕ) × (h < n) × T (passes h) × (at_number (log h) number ≡ Some e)
+    from_one zero e q = cc
+    from_one (suc k) e q =
+        let (h, l, at) = latest_from n (λ h. slice_get (cond (passes h) (log h) []) k) e (sym (together_at n passes log k) ∙ q) in
+        (h, l, grind arith, grind arith)

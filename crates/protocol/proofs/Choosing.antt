@@ -19,9 +19,9 @@ longest_bounds : (n : ℕ) (f : ℕ → ℕ) (x : ℕ) → x < n → f x ≤ lon
 longest_bounds zero f x l = absurd (not-suc-le-zero l)
 longest_bounds (suc n) f x l = grind (arith, longest_bounds n f x)
 
--- an entry of no lower view
-abbrev NoLower : Option LogEntry → LogEntry → Type 0
-NoLower o e = (d : LogEntry) × (o ≡ Some d) × (e.view ≤ d.view)
+-- an entry of a view or a later one
+abbrev pub NoLower : Option LogEntry → ℕ → Type 0
+NoLower o view = (e : LogEntry) × (o ≡ Some e) × (view ≤ e.view)
 
 -- the later of two entries is one of them, of no lower view than either
 later_from : (a b : Option LogEntry) (e : LogEntry) → later a b ≡ Some e → (a ≡ Some e) ⊎ (b ≡ Some e)
@@ -29,25 +29,25 @@ later_from None b e q = inr q
 later_from (Some d) None e q = inl q
 later_from (Some d) (Some c) e q = grind arith
 
-later_no_lower : (a b : Option LogEntry) (e : LogEntry) → NoLower a e ⊎ NoLower b e → NoLower (later a b) e
-later_no_lower None b e (inl h) = absurd (none-some _ h.1)
-later_no_lower None b e (inr h) = h
-later_no_lower (Some d) None e (inl h) = h
-later_no_lower (Some d) None e (inr h) = absurd (none-some _ h.1)
-later_no_lower (Some d) (Some c) e h =
-    cond_both (ltb d.view c.view) (Some c) (Some d) (λ o. NoLower o e)
+later_no_lower : (a b : Option LogEntry) (view : ℕ) → NoLower a view ⊎ NoLower b view → NoLower (later a b) view
+later_no_lower None b view (inl h) = absurd (none-some _ h.1)
+later_no_lower None b view (inr h) = h
+later_no_lower (Some d) None view (inl h) = h
+later_no_lower (Some d) None view (inr h) = absurd (none-some _ h.1)
+later_no_lower (Some d) (Some c) view h =
+    cond_both (ltb d.view c.view) (Some c) (Some d) (λ o. NoLower o view)
     (λ t. (c, refl, grind (arith, nat_tests))) (λ t. (d, refl, grind (arith, nat_tests)))
 
 -- the latest entry is one of them, of no lower view than any
-latest_from : (n : ℕ) (f : ℕ → Option LogEntry) (e : LogEntry) → latest n f ≡ Some e → (x : ℕ) × (x < n) × (f x ≡ Some e)
+pub latest_from : (n : ℕ) (f : ℕ → Option LogEntry) (e : LogEntry) → latest n f ≡ Some e → (x : ℕ) × (x < n) × (f x ≡ Some e)
 latest_from zero f e q = cc
 latest_from (suc n) f e q = grind (arith, latest_from n f e, later_from (latest n f) (f n) e q)
 
-latest_no_lower : (n : ℕ) (f : ℕ → Option LogEntry) (x : ℕ) (e : LogEntry) → x < n → f x ≡ Some e → NoLower (latest n f) e
-latest_no_lower zero f x e l q = absurd (not-suc-le-zero l)
-latest_no_lower (suc n) f x e l q =
-    later_no_lower (latest n f) (f n) e
-    (⊎_elim (λ (same : x ≡ n). inr (e, rw same at q, le_refl _)) (λ below. inl (latest_no_lower n f x e below q)) (last_or_below x n l))
+pub latest_no_lower : (n : ℕ) (f : ℕ → Option LogEntry) (x view : ℕ) → x < n → NoLower (f x) view → NoLower (latest n f) view
+latest_no_lower zero f x view l h = absurd (not-suc-le-zero l)
+latest_no_lower (suc n) f x view l h =
+    later_no_lower (latest n f) (f n) view
+    (⊎_elim (λ (same : x ≡ n). inr (rw same at h)) (λ below. inl (latest_no_lower n f x view below h)) (last_or_below x n l))
 
 -- the entry after the first k of a report is the one that the list has there
 entry_in : (es : List LogEntry) (k : ℕ) → entry_at (Some es) k ≡ slice_get es k
@@ -86,7 +86,7 @@ pub picks : (s : State) (x k : ℕ) (es : List LogEntry) (e : LogEntry) → x < 
 picks s x k es e l q at =
     let f = λ (h : ℕ). entry_at (counts s h) k in
     let has : entry_at (counts s x) k ≡ Some e = ap (λ (o : Option (List LogEntry)). entry_at o k) q ∙ entry_in es k ∙ at in
-    let best = latest_no_lower (peers s) f x e l has in
+    let best = latest_no_lower (peers s) f x e.view l (e, has, le_refl _) in
     let from = latest_from (peers s) f best.0 best.1 in
     let report = entry_from (counts s from.0) k best.0 from.2 in
     record {

@@ -1,5 +1,5 @@
 -- What holds of a cluster and the history that led to it, and what one event more owes.
-use Rattle.std.proofs.Common.{◌≡◌, ℕ, Bool, not, T, List, [], ◌∷◌, ◌++◌, length, set, Some, Ok, Err, Option, Result, sym, refl, ap, ◌∙◌, subst, ⊎_elim, length-set}
+use Rattle.std.proofs.Common.{◌≡◌, ℕ, Bool, not, T, List, [], ◌∷◌, ◌++◌, length, set, Some, Ok, Err, Option, Result, sym, refl, ap, ◌∙◌, subst, ⊎_elim, arith, length-set}
 use Rattle.std.specs.List.{slice_get}
 use Rattle.std.proofs.lemmas.Bool.{cases_eq}
 use Rattle.std.proofs.lemmas.Option.{same_Some}
@@ -15,7 +15,7 @@ use Rattle.protocol.specs.Replay.{RequestMachine}
 use Rattle.protocol.specs.Runs.{Node, Cluster, call, Deed, Word, HeardBytes}
 use Rattle.protocol.specs.Steps.{Act, closes, opens, Effect, Verdict, refused, accepted, step}
 use Rattle.protocol.specs.Verdicts.{answer_of, state_after, used, machine_after, sealed_after}
-use Rattle.protocol.proofs.Grow.{Grows, Adds, InRange, inv_grows, inv_adds}
+use Rattle.protocol.proofs.Grow.{Grows, Adds, Keeps, InRange, inv_grows, inv_adds}
 use Rattle.protocol.proofs.History.{Past, Leaves, IsCall, accepted_new, history_grows, past_more}
 use Rattle.protocol.proofs.Lists.{nth_set, nth_set_other}
 use Rattle.protocol.proofs.Parts.{Inv}
@@ -116,15 +116,14 @@ module _ (config : ClusterConfig) (machine : RequestMachine) (byzantine : ℕ �
       let ok : answer ≡ Ok a = answers ∙ ap answer_of is in
       let is_deed : IsCall deed number act node.state a = (given, rw (named.0, ok)) in
       let knows = λ (x : ℕ) (st : Statement). subst (λ (k : ClusterConfig). Made k c.sealed x st) named.1 in
-      let kept_now =
-      step_keeps machine was now c.sealed c.fits room node.state node.machine inv knows s' effect statement a (subst Word ok word) act heard
-      (shows config machine byzantine ds deed d node.state act a is_deed) (judges ∙ is) in
+      let kept_now : Keeps was now node.state node.machine s' effect statement =
+      step_keeps c.sealed c.fits room inv knows (subst Word ok word) act heard (shows config machine byzantine ds deed d node.state act a is_deed) (judges ∙ is) in
       let range = subst (λ (k : ClusterConfig). InRange k number statement) named.1 kept_now.in_range in
       let adds : Adds was now number statement = rw is at (adding (rw is range)) in (
         kept_now.keeps adds,
         subst (λ (h : ℕ). Leaves config machine now h node.state act a) named.0
             (subst (λ (k : ClusterConfig). Leaves k machine now number node.state act a) named.1
-            (step_leaves machine was now c.sealed c.fits room node.state node.machine inv s' effect statement a adds (λ r. (machine.step node.machine r).1) act (judges ∙ is))),
+            (step_leaves c.sealed c.fits room inv adds (λ r. (machine.step node.machine r).1) act (judges ∙ is))),
       )
 
   caller_keeps : T (not (byzantine at)) → (v : Verdict) → verdict ≡ v
@@ -150,11 +149,8 @@ module _ (config : ClusterConfig) (machine : RequestMachine) (byzantine : ℕ �
       record {
         long = ap length nodes ∙ length-set c.nodes at after ∙ kept.long;
         placed = λ h node' e.
-            ⊎_elim
-            (λ (is : h ≡ at).
-            let stays = subst (SamePlace node.state) judges (step_same node.state c.sealed c.fits room (λ r. (machine.step node.machine r).1) act) in
-            rw (is_new h node' e is, is) (stays.0 ∙ named.0, stays.1 ∙ named.1))
-            (λ apart. kept.placed h node' (elsewhere h apart ∙ e)) (cases_eq h at);
+            let same = subst (SamePlace node.state) judges (step_same node.state c.sealed c.fits room (λ r. (machine.step node.machine r).1) act) in
+            grind (arith, is_new h node' e, elsewhere h, kept.placed h node', named, same);
         keeps = λ h node' e honest.
             ⊎_elim (λ (is : h ≡ at). rw (is_new h node' e is) (caller_keeps (rw is at honest) verdict refl).0)
             (λ (apart : h ≡ at → ⊥).

@@ -9,7 +9,7 @@ use Rattle.wire.specs.Statements.{Statement, doubt, report, reply}
 use Rattle.protocol.specs.declared.state.State.{State}
 use Rattle.protocol.specs.Facts.{Facts}
 use Rattle.protocol.specs.Replay.{RequestMachine}
-use Rattle.protocol.specs.Rules.{Certified, Backed, Executed, nothing, one_more, Replied, Heeded, Chosen, ClosedBefore}
+use Rattle.protocol.specs.Rules.{Certified, Executed, nothing, one_more, Replied, Chosen, ClosedBefore}
 use Rattle.protocol.specs.Steps.{Effect}
 use Rattle.protocol.specs.Verdicts.{used}
 use Rattle.protocol.proofs.Parts.{Reports, Inv}
@@ -24,7 +24,6 @@ module _ {machine : RequestMachine} where
     pub known : (x : ℕ) (st : Statement) → facts.Known x st → facts'.Known x st
     pub opened : (x v : ℕ) → facts.Opened x v → facts'.Opened x v
     pub closed : (x v : ℕ) (holding : ℕ → Bool) → facts.Closed x v holding → facts'.Closed x v holding
-    pub carried : (x v n : ℕ) (r : Request) (outcome : ℕ) → facts.Carried x v n r outcome → facts'.Carried x v n r outcome
 
   -- and replica h made this statement, or none, and no other
   pub record Adds (facts facts' : Facts machine) (h : ℕ) (statement : Option Statement) : Type 0 where
@@ -44,12 +43,6 @@ module _ (config : ClusterConfig) {machine : RequestMachine} {facts facts' : Fac
 
   pub replied_grows : {h v n : ℕ} {r : Request} {outcome : ℕ} → Replied config machine facts h v n r outcome → Replied config machine facts' h v n r outcome
   replied_grows p = search (arith, p, executed_grows, certified_grows)
-
-  pub backed_grows : (from to n : ℕ) (r : Request) → Backed config machine facts from to n r → Backed config machine facts' from to n r
-  backed_grows from to n r (v, no_lower, below, certified) = (v, no_lower, below, certified_grows v n r certified)
-
-  pub heeded_grows : {v n : ℕ} {r : Request} {x : ℕ} → Heeded config machine facts v n r x → Heeded config machine facts' v n r x
-  heeded_grows heeded = search (arith, grows, heeded)
 
   pub chosen_grows : {h v n : ℕ} {r : Request} → Chosen config machine facts h v n r → Chosen config machine facts' h v n r
   chosen_grows chosen = search (arith, grows, chosen)

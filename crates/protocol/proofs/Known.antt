@@ -4,7 +4,6 @@ use Rattle.std.proofs.lemmas.Bool.Decides.{nat_tests}
 use Rattle.std.proofs.lemmas.Slice.Eq.{bytes_eq-Decides}
 use Rattle.wire.specs.declared.config.ClusterConfig.{ClusterConfig}
 use Rattle.wire.specs.declared.entry.LogEntry.{LogEntry}
-use Rattle.wire.specs.declared.request.Request.{Request}
 use Rattle.wire.specs.Bytes.{Bytes}
 use Rattle.wire.specs.Configs.{replicas}
 use Rattle.wire.specs.Kinds.{last_view, last_number}
@@ -16,13 +15,8 @@ use Rattle.wire.proofs.Laws.{written_reads, read_is_written}
 use Rattle.protocol.specs.Certificates.{message, known}
 use Rattle.protocol.specs.Receipts.{Made}
 use Rattle.protocol.specs.Verdicts.{added}
-use Rattle.protocol.specs.Votes.{vote}
 
 -- ---- statements in range
-
-pub fits_vote : (config : ClusterConfig) (h view number : ℕ) (r : Request) → h < replicas config → view ≤ last_view → 0 < number → number ≤ last_number
-    → Fits config h (vote config view h number r)
-fits_vote config h view number r inside small some few = grind (arith, nat_tests)
 
 -- the entries of a report are of earlier views
 early : (view offset : ℕ) (es : List LogEntry) → late_entry view offset es ≡ None → (k : ℕ) (d : LogEntry) → k < length es → (get_or es k d).view < view
@@ -44,19 +38,10 @@ report_in_range config h view es e = grind (arith, nat_tests, early view (7 + 6 
 
 -- ---- sealing
 
--- sealing keeps what was known
-pub made_kept : (config : ClusterConfig) (sealed : ℕ → List ℕ → Bool) (h : ℕ) (bytes : List ℕ) (g : ℕ) (s : Statement)
-    → Made config sealed g s → Made config (added sealed h bytes) g s
-made_kept config sealed h bytes g s made = grind arith
-
 -- another replica's seal adds nothing to what a replica made
 pub made_by_others : (config : ClusterConfig) (sealed : ℕ → List ℕ → Bool) (h : ℕ) (bytes : List ℕ) (g : ℕ) (s : Statement)
     → (g ≡ h → ⊥) → Made config (added sealed h bytes) g s → Made config sealed g s
 made_by_others config sealed h bytes g s other made = grind (arith, nat_tests)
-
--- a statement that is sealed is made
-pub made_new : (config : ClusterConfig) (sealed : ℕ → List ℕ → Bool) (h : ℕ) (s : Statement) → Fits config h s → Made config (added sealed h (message h s)) h s
-made_new config sealed h s fit = grind (arith, nat_tests, bytes_eq-Decides (message h s) (message h s))
 
 -- ---- by the laws of the wire format
 

@@ -1,5 +1,4 @@
 pub mod Quorum
-pub mod Choice
 pub mod Lists
 pub mod Agree
 pub mod Parts
@@ -13,6 +12,7 @@ pub mod Turning
 pub mod Reporting
 pub mod Closing
 pub mod Choosing
+pub mod Choice
 pub mod Opening
 pub mod Stepping
 pub mod History

@@ -26,7 +26,7 @@ use Rattle.protocol.specs.Steps.{Effect, rest, accepted, report_step, hear_repor
 use Rattle.protocol.specs.Votes.{vote}
 use Rattle.protocol.proofs.Tests.{as_accepted, every_at}
 use Rattle.protocol.proofs.Lists.{has_entry}
-use Rattle.protocol.proofs.Known.{fits_vote, fits_report, report_in_range}
+use Rattle.protocol.proofs.Known.{fits_report, report_in_range}
 use Rattle.protocol.proofs.Parts.{has_closed, serving, Shape, Reports, Holds, Inv}
 use Rattle.protocol.proofs.Grow.{Adds, Keeps, certified_grows, inv_adds, chosen_grows, replied_grows}
 
@@ -50,7 +50,7 @@ certificates config sealed view es low (short, early) none k l h inside grouped 
     let entry = get_or es k blank_entry in
     let number : 1 + k ≡ suc k = omega arith in
     let found = subst (λ (n : ℕ). T (certified config sealed entry.view n entry.request)) number (certified_each config sealed 1 es none k blank_entry l) in (
-      fits_vote config h entry.view (suc k) entry.request inside (omega (arith, early k blank_entry l)) (omega arith) (omega arith),
+      grind (arith, nat_tests, early k blank_entry l),
       every_at (group config entry.view) (λ h. known sealed h (vote config entry.view h (suc k) entry.request)) found h grouped,
     )
 

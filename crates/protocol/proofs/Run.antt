@@ -8,7 +8,7 @@ use Rattle.protocol.specs.Agreement.{Covers}
 use Rattle.protocol.specs.Replay.{RequestMachine}
 use Rattle.protocol.specs.Runs.{Node, Cluster, Event, call, byzantine_seal, Deed, Happens, Run, none, more, New, caller}
 use Rattle.protocol.proofs.History.{among_more, among_new}
-use Rattle.protocol.proofs.Known.{made_kept, made_by_others}
+use Rattle.protocol.proofs.Known.{made_by_others}
 use Rattle.protocol.proofs.Clusters.{Kept, still_kept, call_kept}
 use Rattle.protocol.proofs.Starting.{new_kept}
 
@@ -31,7 +31,7 @@ module _ (config : ClusterConfig) (machine : RequestMachine) (byzantine : ℕ �
   event_kept ds c kept (byzantine_seal h bytes) answer d happens covers =
       still_kept config machine byzantine ds c kept _ d happens.nodes
       (λ g act s a is. let event = ap (λ (x : Deed). x.event) is.1 in cc)
-      (λ g st made. rw happens.sealed (grind (arith, made_kept config c.sealed h bytes g st made)))
+      (λ g st made. rw happens.sealed (grind arith))
       (λ g honest st made.
       let was = rw happens.sealed at made in
       grind (arith, covers h bytes answer (among_new _ ds), made_by_others config c.sealed h bytes g st))

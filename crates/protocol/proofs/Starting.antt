@@ -1,5 +1,5 @@
 -- A new cluster keeps what its replicas have to keep: nothing is known, prepared, logged or held.
-use Rattle.std.proofs.Common.{◌≡◌, ℕ, ◌<◌, Bool, T, [], map, length, Some, sym, refl, ap, ◌∙◌, subst, arith}
+use Rattle.std.proofs.Common.{◌≡◌, ℕ, ◌<◌, Bool, T, [], map, length, Some, refl, ap, ◌∙◌, subst, arith}
 use lib.ListN.{length-replicate}
 use Rattle.std.specs.List.{slice_get, range_with_len}
 use Rattle.std.proofs.lemmas.List.FromFn.{length-map-range_with_len, get_or-map-range_with_len}
@@ -50,8 +50,11 @@ module _ (config : ClusterConfig) (machine : RequestMachine) (byzantine : ℕ �
       is_new h node e =
           let first_node = new_node machine config h in
           let nodes = map (new_node machine config) (range_with_len 0 (replicas config)) in
-          let found : slice_get nodes h ≡ Some node = sym (ap (λ ns. slice_get ns h) new.nodes) ∙ e in
-          let below = slice_get_within nodes h node found in
-          let at = get_or_from_slice_get nodes h node first_node found in
-          let inside : h < replicas config = omega (arith, length-map-range_with_len (new_node machine config) 0 (replicas config)) in
-          (inside, sym at ∙ get_or-map-range_with_len (new_node machine config) 0 (replicas config) h h first_node inside (omega arith))
+          let found : slice_get nodes h ≡ Some node = rw new.nodes at e in
+          grind (
+            arith,
+            slice_get_within nodes h node found,
+            get_or_from_slice_get nodes h node first_node found,
+            length-map-range_with_len (new_node machine config) 0 (replicas config),
+            get_or-map-range_with_len (new_node machine config) 0 (replicas config) h h first_node,
+          )

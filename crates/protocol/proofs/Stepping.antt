@@ -47,8 +47,8 @@ module _ (s : State) (sealed : ℕ → List ℕ → Bool) (fits : ℕ → Bool) 
 
 -- ---- what a call leaves behind
 
-module _ (machine : RequestMachine) (facts facts' : Facts machine) (sealed : ℕ → List ℕ → Bool) (fits : ℕ → Bool) (room : ℕ) (s : State) (state : machine.State)
-    (inv : Inv machine facts s state) (s' : State) (effect : Effect) (statement : Option Statement) (answer : ℕ) (adds : Adds facts facts' s.number statement) where
+module _ (sealed : ℕ → List ℕ → Bool) (fits : ℕ → Bool) (room : ℕ) {machine : RequestMachine} {facts facts' : Facts machine} {s : State} {state : machine.State}
+    (inv : Inv machine facts s state) {s' : State} {effect : Effect} {statement : Option Statement} {answer : ℕ} (adds : Adds facts facts' s.number statement) where
   closes_leaves : close_step sealed fits room s ≡ accepted s' effect statement answer → Leaves s.config machine facts' s.number s closes answer
   closes_leaves e =
       let is : statement ≡ Some (closing s.view (held_mask s)) = grind arith in
@@ -72,9 +72,15 @@ Shows facts s closes = facts.Closed s.number s.view (holds s)
 Shows facts s opens = facts.Opened s.number s.view
 Shows facts s act = Unit {0}
 
-module _ (machine : RequestMachine) (facts facts' : Facts machine) (sealed : ℕ → List ℕ → Bool) (fits : ℕ → Bool) (room : ℕ) (s : State) (state : machine.State)
+-- the checks of a message that was read
+checked : (a b c d : Bool) (verdict : Verdict) {s : State} {effect : Effect} {statement : Option Statement} {answer : ℕ}
+    → need a WrongView (need b NotAllowed (need c NotEntitled (need d (Register Unknown) verdict))) ≡ accepted s effect statement answer
+    → T a × T b × T c × T d × (verdict ≡ accepted s effect statement answer)
+checked a b c d verdict e = grind arith
+
+module _ (sealed : ℕ → List ℕ → Bool) (fits : ℕ → Bool) (room : ℕ) {machine : RequestMachine} {facts facts' : Facts machine} {s : State} {state : machine.State}
     (inv : Inv machine facts s state) (knows : (x : ℕ) (st : Statement) → Made s.config sealed x st → facts.Known x st)
-    (s' : State) (effect : Effect) (statement : Option Statement) (answer : ℕ) (word : answer < 2 ^ 64) where
+    {s' : State} {effect : Effect} {statement : Option Statement} {answer : ℕ} (word : answer < 2 ^ 64) where
   -- a message heard, by its kind
   kind_keeps : (g : ℕ) (st : Statement) → view_of st ≡ s.view → T (allows s st) → T (entitles s g st) → Made s.config sealed g st
       → hear_kind sealed fits room s g st ≡ accepted s' effect statement answer → Keeps facts facts' s state s' effect statement
@@ -84,11 +90,6 @@ module _ (machine : RequestMachine) (facts facts' : Facts machine) (sealed : ℕ
   kind_keeps g (report view es) same allowed entitled made e = hear_report_keeps sealed fits room inv knows g view es same made e
   kind_keeps g (closing view mask) same allowed entitled made e = hear_closing_keeps sealed fits room inv knows g view mask same made e
   kind_keeps g (reply view number r outcome) same allowed entitled made e = absurd allowed
-
-  checked : (a b c d : Bool) (verdict : Verdict)
-      → need a WrongView (need b NotAllowed (need c NotEntitled (need d (Register Unknown) verdict))) ≡ accepted s' effect statement answer
-      → T a × T b × T c × T d × (verdict ≡ accepted s' effect statement answer)
-  checked a b c d verdict e = grind arith
 
   hear_keeps : (bytes : List ℕ) → Bytes bytes → (read : Result Said ReadFault) → reading s.config bytes ≡ read
       → hear_read sealed fits room s bytes read ≡ accepted s' effect statement answer → Keeps facts facts' s state s' effect statement

@@ -20,7 +20,6 @@ use Rattle.protocol.specs.States.{working, leads, prepared_at, selected_at, comm
 use Rattle.protocol.specs.Steps.{Effect, rest, accepted, allows, entitles, order_step, repeat_step, hear_prepare, hear_commit}
 use Rattle.protocol.specs.Votes.{vote}
 use Rattle.protocol.proofs.Grow.{Adds, Keeps, chosen_grows, reports_grow, inv_adds, replied_grows, certified_grows, closed_before_grows, executed_grows}
-use Rattle.protocol.proofs.Known.{fits_vote}
 use Rattle.protocol.proofs.Masks.{names_more}
 use Rattle.protocol.proofs.Parts.{Shape, Votes, Prepares, Inv}
 use Rattle.protocol.proofs.Tests.{as_accepted, same_equal}
@@ -49,10 +48,6 @@ module _ {machine : RequestMachine} {facts facts' : Facts machine} (s : State) (
 
   which : (v n : ℕ) (r' : Request) → facts'.Known s.number (vote s.config v s.number n r') → Which v n r'
   which v n r' k = grind (arith, adds.only _ k)
-
-  -- an earlier vote is for another number of the view
-  not_both : (n : ℕ) (r' : Request) → n ≡ suc s.prepared → facts.Known s.number (vote s.config s.view s.number n r') → ⊥
-  not_both n r' is old = let (k, numbered, l, _) = (inv.votes.in_view n r' old).1 in omega arith
 
   votes : Votes s.config machine facts' s.number s.view s.phase (s.prepared + 1) requests
   votes =
@@ -114,7 +109,7 @@ module _ (sealed : ℕ → List ℕ → Bool) (fits : ℕ → Bool) (room : ℕ)
       → Keeps facts facts' s state (with_prepared s r commits) rest (Some st)
   vote_keeps works below r commits selected st is led heard =
       record {
-        in_range = rw is (fits_vote s.config s.number s.view (suc s.prepared) r inv.shape.inside inv.shape.low_view (omega arith) below);
+        in_range = grind (arith, nat_tests, inv.shape);
         keeps = λ adds. voting s state inv works below r commits selected (rw is at adds) (led adds) (heard adds);
       }
 

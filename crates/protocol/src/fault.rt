@@ -7,7 +7,7 @@ use refusals::{Layer, Refusal};
 use seals::fault::RegisterFault;
 use wire::fault::ReadFault;
 
-#[derive(Clone, Copy, PartialEq, Debug)]
+#[derive(Clone, Copy, PartialEq, Eq, Debug)]
 pub enum ReplicaFault {
     // the reader's own fault, or a setting outside its range
     Read(ReadFault),
