@@ -20,10 +20,6 @@ or_swap false false = refl
 abbrev count_of : Option Pair → ℕ
 count_of c = cond (not (is_some c)) 1 0
 
--- a slot number and those behind it
-pub counting_next : (k n : ℕ) → k < n → range_with_len k (n - k) ≡ k ∷ range_with_len (k + 1) (n - (k + 1))
-counting_next k n lt = let e : n - k ≡ suc (n - (k + 1)) = omega arith in ap (range_with_len k) e
-
 all_counting : (P : ℕ → Type 0) (a n : ℕ) → ((k : ℕ) → a ≤ k → k < a + n → P k) → All P (range_with_len a n)
 all_counting P a zero h = tt
 all_counting P a (suc n) h = (h a (omega arith) (omega arith), all_counting P (a + 1) n (λ k le lt. h k (omega arith) (omega arith)))
@@ -121,17 +117,17 @@ module _ (before after : ℕ → Option Pair) (kept : (offset : ℕ) (p : Pair) 
       (λ e. or_right (eqb slot empty_slot) (is_some (after slot)) (ap is_some (some_kept slot (before slot) refl e) ∙ e))
       (or_cases (eqb slot empty_slot) (is_some (before slot)) t)
 
+  pub filled_kept : (rest : List ℕ) → filled before rest ≡ true → filled after rest ≡ true
+  filled_kept [] g = refl
+  filled_kept (t ∷ ts) g =
+      let r = and_parts (eqb t empty_slot || is_some (before t)) (filled before ts) g in
+      and_from (eqb t empty_slot || is_some (after t)) (filled after ts) (slot_filled t r.0) (filled_kept ts r.1)
+
   pub filled_set : (slots : List ℕ) (k offset : ℕ) → filled before slots ≡ true → is_some (after offset) ≡ true → filled after (set slots k offset) ≡ true
   filled_set [] k offset f s = refl
   filled_set (slot ∷ slots) zero offset f s =
       let r = and_parts (eqb slot empty_slot || is_some (before slot)) (filled before slots) f in
       and_from (eqb offset empty_slot || is_some (after offset)) (filled after slots) (or_right (eqb offset empty_slot) (is_some (after offset)) s) (filled_kept slots r.1)
-    where
-      filled_kept : (rest : List ℕ) → filled before rest ≡ true → filled after rest ≡ true
-      filled_kept [] g = refl
-      filled_kept (t ∷ ts) g =
-          let r = and_parts (eqb t empty_slot || is_some (before t)) (filled before ts) g in
-          and_from (eqb t empty_slot || is_some (after t)) (filled after ts) (slot_filled t r.0) (filled_kept ts r.1)
   filled_set (slot ∷ slots) (suc k) offset f s =
       let r = and_parts (eqb slot empty_slot || is_some (before slot)) (filled before slots) f in
       and_from (eqb slot empty_slot || is_some (after slot)) (filled after (set slots k offset)) (slot_filled slot r.0) (filled_set slots k offset r.1 s)

@@ -3,7 +3,8 @@ use Rattle.std.proofs.Common.{◌≡◌, ℕ, suc, ◌-◌, ◌<◌, true, false
 use mathlib.Core.Path.{fun_ext}
 use Rattle.std.proofs.lemmas.Bool.{cases_lt, lt-ltb, le-ltb, and_left, and_from}
 use Rattle.seals.specs.Registers.{Pair, after}
-use Rattle.seals.specs.Indexes.{holdable, slots_fit}
+use Rattle.seals.specs.Slots.{holdable}
+use Rattle.seals.specs.Indexes.{slots_fit}
 
 pub fits_full : (empty : ℕ) (place_of : List Pair → ℕ → Option ℕ) (n : ℕ) → empty ≡ 0 → slots_fit empty place_of [] n ≡ false
 fits_full empty place_of n e = and_left (ltb 0 empty) (holdable (place_of [] n)) (le-ltb 0 empty (omega arith))

@@ -1,9 +1,12 @@
 -- Entries written one after another are read back, in their order.
-use Rattle.std.proofs.Common.{◌≡◌, ℕ, zero, suc, ◌-◌, ◌≤◌, true, leb, List, [], ◌∷◌, ◌++◌, length, drop, Some, None, Option, sym, refl, ap, ◌∙◌, le_refl, arith}
+use Rattle.std.proofs.Common.{◌≡◌, ℕ, zero, suc, ◌-◌, ◌≤◌, true, leb, List, [], ◌∷◌, ◌++◌, length, drop, Some, None, Option, sym, refl, ap, ◌∙◌, le_refl, subst, arith}
 use Rattle.std.specs.List.{flat_map}
 use Rattle.std.proofs.lemmas.Bool.{and_parts, and_from, leb-true, le-leb}
 use Rattle.std.proofs.lemmas.List.{length-drop, drop_at, flat_map_more}
+use Rattle.std.specs.Option.{OnSome, IfNone}
+use Rattle.seals.specs.declared.log.EntryLog.{EntryLog}
 use Rattle.seals.specs.Registers.{Pair}
+use Rattle.seals.specs.Logs.{used_bytes}
 use Rattle.seals.specs.Layout.{packed, width, first, before, walked, entries, all_short, Whole}
 use Rattle.seals.proofs.Packing.{first_packed, first_within}
 
@@ -73,3 +76,9 @@ pub whole_none : (bs : List ℕ) → bs ≡ [] → Whole bs
 whole_none bs e =
     let n : entries bs ≡ [] = ap entries e ∙ entries_none [] refl in
     (ap (flat_map packed) n ∙ sym e, ap all_short n)
+
+-- a log whose entries are whole has only whole entries after one is appended, or did not fit
+pub whole_after : (l m : EntryLog) (p : Pair) (o : Option ℕ) → Whole (used_bytes l) → OnSome o (used_bytes m ≡ used_bytes l ++ packed p) → OnSome o (length p.1 ≤ 65535) → IfNone o (m ≡ l)
+    → Whole (used_bytes m)
+whole_after l m p None w packs short full = subst Whole (sym (ap used_bytes full)) w
+whole_after l m p (Some offset) w packs short full = subst Whole (sym packs) (whole_push (used_bytes l) p w short)

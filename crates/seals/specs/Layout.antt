@@ -1,7 +1,12 @@
 -- Entries as bytes: replica (1), length (2, big endian), bytes.
 use Rattle.std.specs.Prelude.{◌≡◌, ℕ, zero, suc, ◌+◌, ◌*◌, ◌/◌, ◌%◌, Bool, true, cond, ◌&&◌, List, [], ◌∷◌, length, take, drop, Some, None, Option, nat_le, nat_lt, slice_index}
 use Rattle.std.specs.List.{flat_map}
+use Rattle.seals.specs.declared.entry.Entry.{Entry}
 use Rattle.seals.specs.Registers.{Pair}
+
+-- the pair that an entry holds
+abbrev pub pair_of : Entry → Pair
+pair_of e = (e.replica, e.bytes.now)
 
 -- an entry as bytes
 abbrev pub packed : Pair → List ℕ

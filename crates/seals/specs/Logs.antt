@@ -1,13 +1,8 @@
 -- What a log of entries holds, and where the next entry goes.
 use Rattle.std.specs.Prelude.{ℕ, ◌+◌, ◌-◌, cond, ◌&&◌, List, length, take, drop, Some, None, sum_by, Option, nat_le}
-use Rattle.seals.specs.declared.log.Entry.{Entry}
 use Rattle.seals.specs.declared.log.EntryLog.{EntryLog}
 use Rattle.seals.specs.Registers.{Pair}
 use Rattle.seals.specs.Layout.{first, width}
-
--- the pair that an entry holds
-abbrev pub pair_of : Entry → Pair
-pair_of e = (e.replica, e.bytes.now)
 
 -- the bytes that hold entries
 abbrev pub used_bytes : EntryLog → List ℕ
