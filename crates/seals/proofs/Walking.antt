@@ -1,7 +1,8 @@
 -- Entries written one after another are read back, in their order.
 use Rattle.std.proofs.Common.{◌≡◌, ℕ, zero, suc, ◌-◌, ◌≤◌, true, leb, List, [], ◌∷◌, ◌++◌, length, drop, Some, None, Option, sym, refl, ap, ◌∙◌, le_refl, subst, arith}
 use Rattle.std.specs.List.{flat_map}
-use Rattle.std.proofs.lemmas.Bool.{and_parts, and_from, leb-true, le-leb}
+use Rattle.std.proofs.lemmas.Bool.{and_parts, leb-true, le-leb}
+use Rattle.std.proofs.lemmas.List.Folds.{list_all-append}
 use Rattle.std.proofs.lemmas.List.{length-drop, drop_at, flat_map_more}
 use Rattle.std.specs.Option.{OnSome, IfNone}
 use Rattle.seals.specs.declared.log.EntryLog.{EntryLog}
@@ -54,10 +55,7 @@ entries_written (p ∷ ps) s =
     ∙ ap (λ bs. p ∷ entries bs) (drop_at (packed p) (flat_map packed ps) (width p) l) ∙ ap (λ qs. p ∷ qs) (entries_written ps k.1)
 
 short_push : (ps : List Pair) (p : Pair) → all_short ps ≡ true → length p.1 ≤ 65535 → all_short (ps ++ p ∷ []) ≡ true
-short_push [] p s le = and_from (leb (length p.1) 65535) true (le-leb (length p.1) 65535 le) refl
-short_push (q ∷ ps) p s le =
-    let k = and_parts (leb (length q.1) 65535) (all_short ps) s in
-    and_from (leb (length q.1) 65535) (all_short (ps ++ p ∷ [])) k.0 (short_push ps p k.1 le)
+short_push ps p s le = rw (list_all-append, s, le-leb (length p.1) 65535 le)
 
 -- an entry behind whole ones is the last of them
 pub entries_push : (bs : List ℕ) (p : Pair) → Whole bs → length p.1 ≤ 65535 → entries (bs ++ packed p) ≡ entries bs ++ p ∷ []

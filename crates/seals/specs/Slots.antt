@@ -1,7 +1,7 @@
 -- Slots of an index: where a pair is looked for, by its hash.
-use Rattle.std.specs.Prelude.{◌≡◌, ℕ, ◌-◌, ◌%◌, min, Bool, true, false, cond, find, not, ◌&&◌, ◌||◌, List, [], ◌∷◌, ◌++◌, map, length, is_some, Some, None, count_by, Option, nat_lt, ◌==◌, slice_index_or}
+use Rattle.std.specs.Prelude.{◌≡◌, ℕ, ◌-◌, ◌%◌, min, Bool, true, false, find, not, ◌||◌, if◌then◌else◌, List, ◌∷◌, ◌++◌, map, length, is_some, Some, None, count_by, Option, nat_lt, ◌==◌, slice_index_or}
 use Rattle.std.specs.Option.{option_to_list}
-use Rattle.std.specs.List.{range_with_len, flat_map}
+use Rattle.std.specs.List.{range_with_len, flat_map, list_all}
 use Rattle.seals.specs.Fnv.{fnv1a}
 use Rattle.seals.specs.Registers.{Pair, among, is_pair}
 
@@ -16,7 +16,7 @@ holdable (Some offset) = nat_lt offset empty_slot
 
 -- what a slot holds: nothing, or the entry at its offset
 abbrev pub content : (ℕ → Option Pair) → ℕ → Option Pair
-content entry slot = cond (slot == empty_slot) None (entry slot)
+content entry slot = if slot == empty_slot then None else entry slot
 
 -- what each slot holds
 abbrev pub contents : (ℕ → Option Pair) → List ℕ → List (Option Pair)
@@ -24,8 +24,7 @@ contents entry slots = map (content entry) slots
 
 -- every slot is empty or holds the offset of an entry
 abbrev pub filled : (ℕ → Option Pair) → List ℕ → Bool
-filled entry [] = true
-filled entry (slot ∷ slots) = (slot == empty_slot || is_some (entry slot)) && filled entry slots
+filled entry slots = list_all (λ slot. slot == empty_slot || is_some (entry slot)) slots
 
 -- the pairs that slots hold
 abbrev pub pairs_in : List (Option Pair) → List Pair
