@@ -1,28 +1,18 @@
 -- Slots as a list of contents: what they hold before and after one is filled.
-use Rattle.std.proofs.Common.{◌≡◌, ℕ, zero, suc, ◌+◌, ◌-◌, ◌<◌, ◌≤◌, min, Bool, true, false, cond, not, ◌||◌, eqb, List, [], ◌∷◌, ◌++◌, length, get_or, set, is_some, Some, None, Option, sym, refl, ap, ◌∙◌, subst, ⊎_elim, le_of_lt, arith}
+use Rattle.std.proofs.Common.{◌≡◌, ℕ, zero, suc, ◌+◌, ◌-◌, ◌<◌, ◌≤◌, min, true, false, cond, not, ◌||◌, eqb, List, [], ◌∷◌, ◌++◌, length, get_or, set, is_some, Some, None, Option, refl, ap, ◌∙◌, subst, ⊎_elim, le_of_lt, arith}
 use native.Mathlib.Nat.{min-eq_left, min-le_right}
 use Rattle.std.specs.List.{range_with_len, AllByRecursion as All}
-use Rattle.std.proofs.lemmas.Bool.{cases_lt, cases_eq, and_parts, and_from, or_left, or_right, or_cases, cond-true, cond-false, ne_eqb, false≢true}
+use Rattle.std.proofs.lemmas.Bool.{cases_lt, cases_eq, and_parts, ne_eqb}
 use Rattle.std.proofs.ByRecursion.{All-append}
 use Rattle.std.proofs.lemmas.List.{map-set}
 use Rattle.std.proofs.lemmas.List.Sums.{sum_by-cons, sum_by-set, get_or-le-sum_by}
 use Rattle.seals.specs.Registers.{Pair, among, is_pair}
 use Rattle.seals.specs.Slots.{content, contents, empty_slot, filled, pairs_in, vacant, round}
-use Rattle.seals.proofs.Sealing.{or_assoc}
-
-or_swap : (a b : Bool) → (a || b) ≡ (b || a)
-or_swap true true = refl
-or_swap true false = refl
-or_swap false true = refl
-or_swap false false = refl
+use Rattle.std.proofs.Math.Bool.{or_assoc, or_comm}
 
 -- 1 for a slot that holds nothing
 abbrev count_of : Option Pair → ℕ
 count_of c = cond (not (is_some c)) 1 0
-
--- a slot number and those behind it
-pub counting_next : (k n : ℕ) → k < n → range_with_len k (n - k) ≡ k ∷ range_with_len (k + 1) (n - (k + 1))
-counting_next k n lt = let e : n - k ≡ suc (n - (k + 1)) = omega arith in ap (range_with_len k) e
 
 all_counting : (P : ℕ → Type 0) (a n : ℕ) → ((k : ℕ) → a ≤ k → k < a + n → P k) → All P (range_with_len a n)
 all_counting P a zero h = tt
@@ -53,22 +43,20 @@ round_all P start count s a k lt =
 -- a pair that a slot holds is among those held
 pub held_among : (cs : List (Option Pair)) (k : ℕ) (p : Pair) (replica : ℕ) (bytes : List ℕ)
     → get_or cs k None ≡ Some p → is_pair p replica bytes ≡ true → among (pairs_in cs) replica bytes ≡ true
-held_among [] k p replica bytes e t = let z : ◌≡◌ {A = ℕ} 0 1 = cc in absurd (omega arith)
-held_among (None ∷ cs) zero p replica bytes e t = let z : ◌≡◌ {A = ℕ} 0 1 = cc in absurd (omega arith)
+held_among [] k p replica bytes e t = grind arith
+held_among (None ∷ cs) zero p replica bytes e t = grind arith
 held_among (None ∷ cs) (suc k) p replica bytes e t = held_among cs k p replica bytes e t
-held_among (Some q ∷ cs) zero p replica bytes e t =
-    let d : q ≡ p = cc in or_left (is_pair q replica bytes) (among (pairs_in cs) replica bytes) (ap (λ r. is_pair r replica bytes) d ∙ t)
-held_among (Some q ∷ cs) (suc k) p replica bytes e t = or_right (is_pair q replica bytes) (among (pairs_in cs) replica bytes) (held_among cs k p replica bytes e t)
+held_among (Some q ∷ cs) zero p replica bytes e t = grind arith
+held_among (Some q ∷ cs) (suc k) p replica bytes e t = grind (arith, held_among cs k p replica bytes e t)
 
 -- filling a vacant slot adds its pair to those held
 pub among_fill : (cs : List (Option Pair)) (k : ℕ) (p : Pair) (replica : ℕ) (bytes : List ℕ)
     → k < length cs → get_or cs k None ≡ None → among (pairs_in (set cs k (Some p))) replica bytes ≡ (among (pairs_in cs) replica bytes || is_pair p replica bytes)
 among_fill [] k p replica bytes lt e = absurd (omega arith)
-among_fill (None ∷ cs) zero p replica bytes lt e = or_swap (is_pair p replica bytes) (among (pairs_in cs) replica bytes)
+among_fill (None ∷ cs) zero p replica bytes lt e = or_comm (is_pair p replica bytes) (among (pairs_in cs) replica bytes)
 among_fill (None ∷ cs) (suc k) p replica bytes lt e = among_fill cs k p replica bytes (omega arith) e
-among_fill (Some q ∷ cs) zero p replica bytes lt e = let z : ◌≡◌ {A = ℕ} 0 1 = cc in absurd (omega arith)
-among_fill (Some q ∷ cs) (suc k) p replica bytes lt e =
-    ap (λ b. is_pair q replica bytes || b) (among_fill cs k p replica bytes (omega arith) e) ∙ or_assoc (is_pair q replica bytes) (among (pairs_in cs) replica bytes) (is_pair p replica bytes)
+among_fill (Some q ∷ cs) zero p replica bytes lt e = grind arith
+among_fill (Some q ∷ cs) (suc k) p replica bytes lt e = rw (among_fill cs k p replica bytes (omega arith) e, or_assoc)
 
 -- filling a vacant slot leaves one fewer
 pub vacant_fill : (cs : List (Option Pair)) (k : ℕ) (p : Pair) → k < length cs → get_or cs k None ≡ None → vacant (set cs k (Some p)) + 1 ≡ vacant cs
@@ -90,56 +78,42 @@ vacant_none (c ∷ cs) h =
     let r : vacant cs ≡ 0 = vacant_none cs (λ k lt. h (suc k) (omega arith)) in
     sum_by-cons count_of c cs ∙ omega arith
 
--- a slot's content, by what the slot is
-pub content_empty : (entry : ℕ → Option Pair) (slot : ℕ) → eqb slot empty_slot ≡ true → content entry slot ≡ None
-content_empty entry slot e = cond-true _ _ _ e
-
-pub content_entry : (entry : ℕ → Option Pair) (slot : ℕ) → eqb slot empty_slot ≡ false → content entry slot ≡ entry slot
-content_entry entry slot e = cond-false _ _ _ e
-
 module _ (before after : ℕ → Option Pair) (kept : (offset : ℕ) (p : Pair) → before offset ≡ Some p → after offset ≡ Some p) where
-  some_kept : (offset : ℕ) (o : Option Pair) → before offset ≡ o → is_some o ≡ true → after offset ≡ before offset
-  some_kept offset None e t = absurd (false≢true t)
-  some_kept offset (Some p) e t = kept offset p e ∙ sym e
+  -- a slot that is empty or holds the offset of an entry holds the same where entries are kept
+  slot_kept : (slot : ℕ) (o : Option Pair) → before slot ≡ o → (eqb slot empty_slot || is_some o) ≡ true → content after slot ≡ content before slot
+  slot_kept slot None e t = grind arith
+  slot_kept slot (Some p) e t = grind (arith, kept slot p e)
 
-  slot_kept : (slot : ℕ) → (eqb slot empty_slot || is_some (before slot)) ≡ true → content after slot ≡ content before slot
-  slot_kept slot t =
-      ⊎_elim (λ e. content_empty after slot e ∙ sym (content_empty before slot e))
-      (λ e. ap (cond (eqb slot empty_slot) None) (some_kept slot (before slot) refl e))
-      (or_cases (eqb slot empty_slot) (is_some (before slot)) t)
+  slot_filled : (slot : ℕ) (o : Option Pair) → before slot ≡ o → (eqb slot empty_slot || is_some o) ≡ true → (eqb slot empty_slot || is_some (after slot)) ≡ true
+  slot_filled slot None e t = grind arith
+  slot_filled slot (Some p) e t = grind (arith, kept slot p e)
 
   -- entries that stay as they are leave the contents as they are
   pub contents_kept : (slots : List ℕ) → filled before slots ≡ true → contents after slots ≡ contents before slots
   contents_kept [] f = refl
   contents_kept (slot ∷ slots) f =
       let k = and_parts (eqb slot empty_slot || is_some (before slot)) (filled before slots) f in
-      ap (λ c. c ∷ contents after slots) (slot_kept slot k.0) ∙ ap (λ cs. content before slot ∷ cs) (contents_kept slots k.1)
+      rw (slot_kept slot (before slot) refl k.0, contents_kept slots k.1)
 
-  slot_filled : (slot : ℕ) → (eqb slot empty_slot || is_some (before slot)) ≡ true → (eqb slot empty_slot || is_some (after slot)) ≡ true
-  slot_filled slot t =
-      ⊎_elim (λ e. or_left (eqb slot empty_slot) (is_some (after slot)) e)
-      (λ e. or_right (eqb slot empty_slot) (is_some (after slot)) (ap is_some (some_kept slot (before slot) refl e) ∙ e))
-      (or_cases (eqb slot empty_slot) (is_some (before slot)) t)
+  pub filled_kept : (slots : List ℕ) → filled before slots ≡ true → filled after slots ≡ true
+  filled_kept [] f = refl
+  filled_kept (slot ∷ slots) f =
+      let k = and_parts (eqb slot empty_slot || is_some (before slot)) (filled before slots) f in
+      rw (slot_filled slot (before slot) refl k.0, filled_kept slots k.1)
 
   pub filled_set : (slots : List ℕ) (k offset : ℕ) → filled before slots ≡ true → is_some (after offset) ≡ true → filled after (set slots k offset) ≡ true
   filled_set [] k offset f s = refl
   filled_set (slot ∷ slots) zero offset f s =
       let r = and_parts (eqb slot empty_slot || is_some (before slot)) (filled before slots) f in
-      and_from (eqb offset empty_slot || is_some (after offset)) (filled after slots) (or_right (eqb offset empty_slot) (is_some (after offset)) s) (filled_kept slots r.1)
-    where
-      filled_kept : (rest : List ℕ) → filled before rest ≡ true → filled after rest ≡ true
-      filled_kept [] g = refl
-      filled_kept (t ∷ ts) g =
-          let r = and_parts (eqb t empty_slot || is_some (before t)) (filled before ts) g in
-          and_from (eqb t empty_slot || is_some (after t)) (filled after ts) (slot_filled t r.0) (filled_kept ts r.1)
+      grind (arith, filled_kept slots r.1)
   filled_set (slot ∷ slots) (suc k) offset f s =
       let r = and_parts (eqb slot empty_slot || is_some (before slot)) (filled before slots) f in
-      and_from (eqb slot empty_slot || is_some (after slot)) (filled after (set slots k offset)) (slot_filled slot r.0) (filled_set slots k offset r.1 s)
+      rw (slot_filled slot (before slot) refl r.0, filled_set slots k offset r.1 s)
 
   -- an entry's offset put into a slot makes its pair the slot's content
   pub contents_put : (slots : List ℕ) (k offset : ℕ) (p : Pair) → filled before slots ≡ true → offset < empty_slot → after offset ≡ Some p
       → contents after (set slots k offset) ≡ set (contents before slots) k (Some p)
   contents_put slots k offset p f lt e =
       let n : eqb offset empty_slot ≡ false = ne_eqb offset empty_slot (λ q. omega arith) in
-      map-set (content after) slots k offset ∙ ap (λ cs. set cs k (content after offset)) (contents_kept slots f)
-      ∙ ap (set (contents before slots) k) (content_entry after offset n ∙ e)
+      let c : content after offset ≡ Some p = rw (n, e) in
+      map-set (content after) slots k offset ∙ rw (contents_kept slots f, c)

@@ -1,11 +1,9 @@
-pub mod Parts
 pub mod Packing
 pub mod Walking
 pub mod Placing
 pub mod Appending
 pub mod Sealing
-pub mod Trying
+pub mod Probing
 pub mod Filling
-pub mod Turning
 pub mod Reaching
 pub mod Fitting

@@ -1,24 +1,14 @@
 -- Sealing as it moves the set of sealed pairs.
-use Rattle.std.proofs.Common.{◌≡◌, ℕ, Bool, true, false, ◌||◌, eqb, List, [], ◌∷◌, ◌++◌, length, Ok, Err, Result, sym, refl, ap, ◌∙◌}
+use Rattle.std.proofs.Common.{◌≡◌, ℕ, Bool, true, false, ◌||◌, eqb, List, [], ◌∷◌, ◌++◌, length, Ok, Err, Result, sym, refl}
 use mathlib.Core.Path.{fun_ext}
 use Rattle.std.specs.Str.{bytes_eq}
+use Rattle.std.proofs.Math.Bool.{or-false}
+use Rattle.std.proofs.lemmas.List.Folds.{list_any-append}
 use Rattle.std.proofs.lemmas.Bool.{eqb-true, and_parts, both_ways, cond-true, or_right}
 use Rattle.std.proofs.lemmas.Slice.Eq.{bytes_eq-Decides}
 use Rattle.seals.specs.declared.fault.RegisterFault.{RegisterFault}
 use Rattle.seals.specs.declared.fault.RegisterFault.TheVariants.{Full}
 use Rattle.seals.specs.Registers.{Pair, RegisterState, is_pair, added, after_sealing, among, sealing, with_pair}
-
-or_false : (b : Bool) → (b || false) ≡ b
-or_false true = refl
-or_false false = refl
-
-or_true : (b : Bool) → (b || true) ≡ true
-or_true true = refl
-or_true false = refl
-
-pub or_assoc : (a b c : Bool) → (a || (b || c)) ≡ ((a || b) || c)
-or_assoc true b c = refl
-or_assoc false b c = refl
 
 -- a pair is the one with its replica and bytes
 pub pair_eq : (p : Pair) (r : ℕ) (bs : List ℕ) → is_pair p r bs ≡ true → (p.0 ≡ r) × (p.1 ≡ bs)
@@ -31,19 +21,12 @@ pub added_known : (sealed : ℕ → List ℕ → Bool) (replica : ℕ) (bytes : 
 added_known sealed replica bytes k = fun_ext (λ r. fun_ext (λ bs. at_pair r bs (is_pair (replica, bytes) r bs) refl))
   where
     at_pair : (r : ℕ) (bs : List ℕ) (b : Bool) → is_pair (replica, bytes) r bs ≡ b → sealed r bs ≡ (sealed r bs || b)
-    at_pair r bs false e = sym (or_false (sealed r bs))
-    at_pair r bs true e =
-        let q = pair_eq (replica, bytes) r bs e in
-        let t : sealed r bs ≡ true = sym (ap (λ x. sealed x bytes) q.0 ∙ ap (sealed r) q.1) ∙ k in
-        t ∙ sym (or_true (sealed r bs))
+    at_pair r bs false e = sym (or-false (sealed r bs))
+    at_pair r bs true e = let q = pair_eq (replica, bytes) r bs e in rw (← q.0, ← q.1, k)
 
 -- a pair at the end of a list is sealed besides the others
 pub among_push : (ps : List Pair) (replica : ℕ) (bytes : List ℕ) → among (ps ++ (replica, bytes) ∷ []) ≡ added (among ps) replica bytes
-among_push ps replica bytes = fun_ext (λ r. fun_ext (λ bs. at_pair ps r bs))
-  where
-    at_pair : (qs : List Pair) (r : ℕ) (bs : List ℕ) → among (qs ++ (replica, bytes) ∷ []) r bs ≡ (among qs r bs || is_pair (replica, bytes) r bs)
-    at_pair [] r bs = or_false (is_pair (replica, bytes) r bs)
-    at_pair (q ∷ qs) r bs = ap (λ b. is_pair q r bs || b) (at_pair qs r bs) ∙ or_assoc (is_pair q r bs) (among qs r bs) (is_pair (replica, bytes) r bs)
+among_push ps replica bytes = fun_ext (λ r. fun_ext (λ bs. rw (list_any-append, or-false)))
 
 -- what `seal` owes: its answer, what it leaves, and that it accepts what fits
 pub record Seals (state state' : RegisterState) (replica : ℕ) (bytes : List ℕ) (result : Result Unit RegisterFault) : Type 0 where

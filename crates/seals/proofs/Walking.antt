@@ -1,9 +1,13 @@
 -- Entries written one after another are read back, in their order.
-use Rattle.std.proofs.Common.{◌≡◌, ℕ, zero, suc, ◌-◌, ◌≤◌, true, leb, List, [], ◌∷◌, ◌++◌, length, drop, Some, None, Option, sym, refl, ap, ◌∙◌, le_refl, arith}
+use Rattle.std.proofs.Common.{◌≡◌, ℕ, zero, suc, ◌-◌, ◌≤◌, true, leb, List, [], ◌∷◌, ◌++◌, length, drop, Some, None, Option, sym, refl, ap, ◌∙◌, le_refl, subst, arith}
 use Rattle.std.specs.List.{flat_map}
-use Rattle.std.proofs.lemmas.Bool.{and_parts, and_from, leb-true, le-leb}
+use Rattle.std.proofs.lemmas.Bool.{and_parts, leb-true, le-leb}
+use Rattle.std.proofs.lemmas.List.Folds.{list_all-append}
 use Rattle.std.proofs.lemmas.List.{length-drop, drop_at, flat_map_more}
+use Rattle.std.specs.Option.{OnSome, IfNone}
+use Rattle.seals.specs.declared.log.EntryLog.{EntryLog}
 use Rattle.seals.specs.Registers.{Pair}
+use Rattle.seals.specs.Logs.{used_bytes}
 use Rattle.seals.specs.Layout.{packed, width, first, before, walked, entries, all_short, Whole}
 use Rattle.seals.proofs.Packing.{first_packed, first_within}
 
@@ -51,10 +55,7 @@ entries_written (p ∷ ps) s =
     ∙ ap (λ bs. p ∷ entries bs) (drop_at (packed p) (flat_map packed ps) (width p) l) ∙ ap (λ qs. p ∷ qs) (entries_written ps k.1)
 
 short_push : (ps : List Pair) (p : Pair) → all_short ps ≡ true → length p.1 ≤ 65535 → all_short (ps ++ p ∷ []) ≡ true
-short_push [] p s le = and_from (leb (length p.1) 65535) true (le-leb (length p.1) 65535 le) refl
-short_push (q ∷ ps) p s le =
-    let k = and_parts (leb (length q.1) 65535) (all_short ps) s in
-    and_from (leb (length q.1) 65535) (all_short (ps ++ p ∷ [])) k.0 (short_push ps p k.1 le)
+short_push ps p s le = rw (list_all-append, s, le-leb (length p.1) 65535 le)
 
 -- an entry behind whole ones is the last of them
 pub entries_push : (bs : List ℕ) (p : Pair) → Whole bs → length p.1 ≤ 65535 → entries (bs ++ packed p) ≡ entries bs ++ p ∷ []
@@ -73,3 +74,9 @@ pub whole_none : (bs : List ℕ) → bs ≡ [] → Whole bs
 whole_none bs e =
     let n : entries bs ≡ [] = ap entries e ∙ entries_none [] refl in
     (ap (flat_map packed) n ∙ sym e, ap all_short n)
+
+-- a log whose entries are whole has only whole entries after one is appended, or did not fit
+pub whole_after : (l m : EntryLog) (p : Pair) (o : Option ℕ) → Whole (used_bytes l) → OnSome o (used_bytes m ≡ used_bytes l ++ packed p) → OnSome o (length p.1 ≤ 65535) → IfNone o (m ≡ l)
+    → Whole (used_bytes m)
+whole_after l m p None w packs short full = subst Whole (sym (ap used_bytes full)) w
+whole_after l m p (Some offset) w packs short full = subst Whole (sym packs) (whole_push (used_bytes l) p w short)

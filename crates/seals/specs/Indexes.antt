@@ -1,18 +1,13 @@
 -- What an indexed journal means as a register.
-use Rattle.std.specs.Prelude.{ℕ, Bool, false, ◌&&◌, List, [], length, Some, None, Option, nat_lt}
+use Rattle.std.specs.Prelude.{ℕ, Bool, ◌&&◌, List, [], length, Option, nat_lt}
 use Rattle.seals.specs.declared.index.IndexedJournal.{IndexedJournal}
 use Rattle.seals.specs.Registers.{Pair, RegisterState, among}
 use Rattle.seals.specs.Logs.{entry_at, new_place, place}
-use Rattle.seals.specs.Slots.{contents, empty_slot, pairs_in}
+use Rattle.seals.specs.Slots.{contents, holdable, pairs_in}
 
 -- what the slots of an index hold
 abbrev pub index_contents : IndexedJournal → List (Option Pair)
-index_contents x = contents (entry_at x.log) x.slots.offsets.now
-
--- a slot can hold the offset
-abbrev pub holdable : Option ℕ → Bool
-holdable None = false
-holdable (Some offset) = nat_lt offset empty_slot
+index_contents x = contents (entry_at x.log) x.slots.now
 
 -- what has a place at an offset that a slot can hold fits, while a slot is empty
 abbrev pub slots_fit : ℕ → (List Pair → ℕ → Option ℕ) → List Pair → ℕ → Bool

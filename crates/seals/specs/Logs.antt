@@ -1,13 +1,8 @@
 -- What a log of entries holds, and where the next entry goes.
-use Rattle.std.specs.Prelude.{ℕ, ◌+◌, ◌-◌, cond, ◌&&◌, List, length, take, drop, Some, None, sum_by, Option, nat_le}
-use Rattle.seals.specs.declared.log.Entry.{Entry}
+use Rattle.std.specs.Prelude.{ℕ, ◌+◌, ◌-◌, if◌then◌else◌, ◌&&◌, List, length, take, drop, Some, None, sum_by, Option, nat_le}
 use Rattle.seals.specs.declared.log.EntryLog.{EntryLog}
 use Rattle.seals.specs.Registers.{Pair}
 use Rattle.seals.specs.Layout.{first, width}
-
--- the pair that an entry holds
-abbrev pub pair_of : Entry → Pair
-pair_of e = (e.replica, e.bytes.now)
 
 -- the bytes that hold entries
 abbrev pub used_bytes : EntryLog → List ℕ
@@ -19,7 +14,7 @@ entry_at l offset = first (drop offset (used_bytes l))
 
 -- room for a next entry with so many bytes, with so many of the memory's used
 abbrev pub placed : ℕ → ℕ → ℕ → Option ℕ
-placed space used n = cond (nat_le n 65535 && nat_le (n + 3) (space - used)) (Some used) None
+placed space used n = if nat_le n 65535 && nat_le (n + 3) (space - used) then Some used else None
 
 -- the offset of a next entry with so many bytes, once these were appended; none where it does not fit
 unfoldable pub place : EntryLog → List Pair → ℕ → Option ℕ

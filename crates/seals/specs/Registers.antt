@@ -1,5 +1,6 @@
 -- What a register means, and what sealing does to it.
 use Rattle.std.specs.Prelude.{ℕ, Bool, false, not, ◌&&◌, ◌||◌, List, [], ◌∷◌, if◌then◌else◌, length, Ok, Err, Result, ◌==◌}
+use Rattle.std.specs.List.{list_any}
 use Rattle.std.specs.Str.{bytes_eq}
 use Rattle.seals.specs.declared.fault.RegisterFault.{RegisterFault}
 use Rattle.seals.specs.declared.fault.RegisterFault.TheVariants.{Full}
@@ -54,5 +55,4 @@ after_sealing state replica bytes = if adds state.sealed state.fits replica byte
 
 -- whether a list has this pair
 abbrev pub among : List Pair → ℕ → List ℕ → Bool
-among [] replica bytes = false
-among (p ∷ ps) replica bytes = is_pair p replica bytes || among ps replica bytes
+among ps replica bytes = list_any (λ p. is_pair p replica bytes) ps

@@ -1,6 +1,6 @@
 // FNV-1a, the public hash of 32 bits.
-ghost use Rattle.std.specs.Prelude.{◌≡◌, ◌∷◌};
-ghost use Rattle.seals.specs.Fnv.{fnv1a as hash_of, absorbed, step};
+ghost use Rattle.std.specs.Prelude.{◌≡◌, ◌∷◌, fold};
+ghost use Rattle.seals.specs.Fnv.{fnv1a as hash_of, step};
 
 const OFFSET_BASIS: u32 = 2166136261;
 
@@ -20,13 +20,11 @@ pub fn fnv1a_pair(replica: u8, bytes: &[u8]) -> u32
 }
 
 fn absorb(start: u32, bytes: &[u8]) -> u32
-    ensures { result ≡ absorbed start bytes.now }
+    ensures { result ≡ fold step start bytes.now }
 {
-    let mut hash = start;
-    for byte in bytes {
-        hash = absorb_byte(hash, *byte);
-    }
-    hash
+    bytes
+        .iter()
+        .fold(start, |hash, byte| absorb_byte(hash, *byte))
 }
 
 fn absorb_byte(hash: u32, byte: u8) -> u32

@@ -1,26 +1,116 @@
 // A journal beside an index of hash slots. Looking a pair up tries the slots that its hash names.
 ghost use Rattle.std.specs.Prelude.{◌≡◌, true};
 ghost use Rattle.seals.specs.Logs.{entry_at};
-ghost use Rattle.seals.specs.Slots.{contents, filled, Reached, vacant};
+ghost use Rattle.seals.specs.Slots.{Reached, contents, filled, holdable, vacant};
 
+use crate::entry::Entry;
+use crate::fault::RegisterFault;
+use crate::fnv::fnv1a_pair;
 use crate::log::EntryLog;
+use crate::register::Register;
 
 // the value of an empty slot; offsets stay below it
-pub(crate) const EMPTY: u32 = 4294967295;
+const EMPTY: u32 = 4294967295;
 
-// each slot is empty or holds the offset of an entry
-#[derive(Drop)]
-pub(crate) struct Slots<'a> {
-    pub(crate) offsets: &'a mut [u32],
-}
-
-// a journal, its slots, and how many of them are empty
+// a journal, slots that are each empty or hold the offset of an entry, and how many are empty
 #[derive(Drop)]
 pub struct IndexedJournal<'a> {
     pub(crate) log: EntryLog<'a>,
-    pub(crate) slots: Slots<'a>,
+    pub(crate) slots: &'a mut [u32],
     pub(crate) empty: usize,
-    ghost readable: { filled (entry_at log) slots.offsets.now ≡ true },
-    ghost counted: { empty ≡ vacant (contents (entry_at log) slots.offsets.now) },
-    ghost reached: { Reached (contents (entry_at log) slots.offsets.now) },
+    ghost readable: { filled (entry_at log) slots.now ≡ true },
+    ghost counted: { empty ≡ vacant (contents (entry_at log) slots.now) },
+    ghost reached: { Reached (contents (entry_at log) slots.now) },
+}
+
+impl<'a> IndexedJournal<'a> {
+    ghost use Rattle.std.specs.Prelude.{◌<◌, ℕ, None, IfSome, length, slice_index_or};
+    ghost use Rattle.std.specs.Option.{option_map};
+    ghost use Rattle.seals.specs.Registers.{nothing};
+    ghost use Rattle.seals.specs.Layout.{pair_of};
+    ghost use Rattle.seals.specs.Slots.{ends_at, probed};
+    ghost use Rattle.seals.specs.Indexes.{index_contents, index_state, new_index_fits};
+
+    // an empty journal and empty slots, whatever memory and slots held
+    pub fn new(memory: &'a mut [u8], slots: &'a mut [u32]) -> IndexedJournal<'a>
+        ensures nothing_sealed { (index_state result).sealed ≡ nothing }
+        ensures room { (index_state result).then_fits ≡ new_index_fits (length memory.old) (length slots.old) }
+    {
+        slots.fill(EMPTY);
+        let empty = slots.len();
+        IndexedJournal {
+            log: EntryLog::new(memory),
+            slots,
+            empty,
+        }
+    }
+
+    // the slot that a search ends at, from the one that the hash names and round; none if all hold other entries
+    fn slot_of(&self, entry: Entry<'_>) -> Option<usize>
+        ensures answer { result ≡ probed (index_contents self.now) entry.entry.replica entry.entry.bytes.now }
+        ensures inside { IfSome result (λ slot. slot < length self.now.slots.now) }
+    {
+        let count = self.slots.len();
+        let hash = fnv1a_pair(entry.replica, entry.bytes) as usize;
+        let start = hash.checked_rem(count)?;
+        (start..count)
+            .chain(0..start)
+            .find(|&slot| self.ends_at(slot, entry))
+    }
+
+    // an empty slot and one that holds the entry end a search
+    fn ends_at(&self, slot: usize, entry: Entry<'_>) -> bool
+        ensures { result ≡ ends_at (index_contents self.now) entry.entry.replica entry.entry.bytes.now slot }
+    {
+        let held = self.entry_in(slot);
+        held.is_none() || held == Some(entry)
+    }
+
+    // the entry that a slot holds
+    fn entry_in(&self, slot: usize) -> Option<Entry<'_>>
+        ensures { option_map pair_of result ≡ slice_index_or (index_contents self.now) slot None }
+    {
+        let offset = *self.slots.get(slot)?;
+        if offset == EMPTY {
+            return None;
+        }
+        self.log.entry_at(offset as usize)
+    }
+}
+
+impl<'a> Register for IndexedJournal<'a> {
+    ghost use Rattle.seals.specs.Indexes.{index_state};
+
+    ghost state = { index_state };
+
+    fn is_sealed(&mut self, replica: u8, bytes: &[u8]) -> bool {
+        let slot = self.slot_of(Entry { replica, bytes });
+        matches!(slot, Some(slot) if self.entry_in(slot).is_some())
+    }
+
+    fn has_room(&mut self, length: usize) -> bool {
+        self.empty > 0 && is_holdable(self.log.offset_for(length))
+    }
+
+    fn seal(&mut self, replica: u8, bytes: &[u8]) -> Result<(), RegisterFault> {
+        let entry = Entry { replica, bytes };
+        let slot = self.slot_of(entry).ok_or(RegisterFault::Full)?;
+        if self.entry_in(slot).is_some() {
+            return Ok(());
+        }
+        if !is_holdable(self.log.offset_for(bytes.len())) {
+            return Err(RegisterFault::Full);
+        }
+        let offset = self.log.append(entry).unwrap();
+        self.slots[slot] = offset as u32;
+        self.empty -= 1;
+        Ok(())
+    }
+}
+
+// whether there is an offset, and a slot can hold it
+fn is_holdable(offset: Option<usize>) -> bool
+    ensures { result ≡ holdable offset }
+{
+    offset.is_some_and(|offset| offset < EMPTY as usize)
 }

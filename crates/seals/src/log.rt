@@ -1,31 +1,24 @@
-// Entries in given memory, one after another: replica (1 byte), length (2 bytes, big endian), bytes.
-// An index uses `offset_for`, `entry_at` and `append` by what they promise of `place` and `entry_at`; the layout is known here only.
-ghost use Rattle.std.specs.Prelude.{◌≡◌, ℕ, ◌+◌, ◌≤◌, [], ◌++◌, length, take, is_some, if◌then◌else◌, Some};
-ghost use Rattle.std.specs.Option.{option_map};
-ghost use Rattle.seals.specs.Registers.{Pair, after, among, is_pair};
-ghost use Rattle.seals.specs.Layout.{entries, first, packed};
-ghost use Rattle.seals.specs.Logs.{entry_at, new_place, pair_of, place, used_bytes};
+// Entries in given memory, one after another.
+// An index uses `offset_for`, `entry_at` and `append` by what they promise of `place` and `entry_at`.
+ghost use Rattle.std.specs.Prelude.{◌≤◌, length};
 
-// bytes before those of the entry
-const HEAD: usize = 3;
-// the length field has two bytes
-const LONGEST: usize = 65535;
-
-// a replica and the bytes that it sealed
-#[derive(Clone, Copy)]
-pub(crate) struct Entry<'a> {
-    pub(crate) replica: u8,
-    pub(crate) bytes: &'a [u8],
-}
+use crate::entry::{Entry, HEAD, LONGEST, split_entry};
 
 // memory, and how much of it holds entries
 #[derive(Drop)]
 pub(crate) struct EntryLog<'a> {
     pub(crate) memory: &'a mut [u8],
     pub(crate) used: usize,
+    ghost within: { used ≤ length memory.now },
 }
 
 impl<'a> EntryLog<'a> {
+    ghost use Rattle.std.specs.Prelude.{◌≡◌, ℕ, ◌+◌, [], ◌++◌, take, IfNone, IfSome, OnSome, Some};
+    ghost use Rattle.std.specs.Option.{option_map};
+    ghost use Rattle.seals.specs.Registers.{Pair, after};
+    ghost use Rattle.seals.specs.Layout.{packed, pair_of};
+    ghost use Rattle.seals.specs.Logs.{entry_at, new_place, place, used_bytes};
+
     pub(crate) fn new(memory: &'a mut [u8]) -> EntryLog<'a>
         ensures nothing_used { used_bytes result ≡ [] }
         ensures room { place result ≡ new_place (length memory.old) }
@@ -34,44 +27,42 @@ impl<'a> EntryLog<'a> {
     }
 
     // the offset that an entry of this length gets, if it fits
-    pub(crate) fn offset_for(&self, length: usize) -> Option<usize>
-        ensures { result ≡ place self.now [] length }
+    #[tactic(auto, unfolding(crate::specs::Logs::place))]
+    pub(crate) fn offset_for(&self, len: usize) -> Option<usize>
+        ensures answer { result ≡ place self.now [] len }
+        ensures behind { IfSome result (λ offset. offset ≡ self.now.used) }
+        ensures short { IfSome result (λ _. len ≤ 65535) }
+        ensures inside { IfSome result (λ offset. offset + 3 + len ≤ length self.now.memory.now) }
     {
-        let left = self.memory.len().saturating_sub(self.used);
-        if length > LONGEST || length + HEAD > left {
-            return None;
-        }
-        Some(self.used)
+        let left = self.memory.len() - self.used;
+        (len <= LONGEST && HEAD + len <= left).then_some(self.used)
     }
 
     // the entry that is read at an offset
+    #[tactic(auto, unfolding(crate::specs::Logs::entry_at))]
     pub(crate) fn entry_at(&self, offset: usize) -> Option<Entry<'_>>
         ensures { option_map pair_of result ≡ entry_at self.now offset }
     {
-        let used = self.in_use();
-        if offset > used.len() {
-            return None;
-        }
-        let (_, rest) = used.split_at(offset);
-        first_entry(rest)
+        let (entry, _) = split_entry(self.in_use().get(offset..)?)?;
+        Some(entry)
     }
 
     // writes an entry, if it fits, and answers its offset
-    pub(crate) fn append(&mut self, replica: u8, bytes: &[u8]) -> Option<usize>
-        ensures answer { result ≡ place self.old [] (length bytes.now) }
-        ensures written { (offset : ℕ) → result ≡ Some offset → entry_at self.new offset ≡ Some (replica, bytes.now) }
+    pub(crate) fn append(&mut self, entry: Entry<'_>) -> Option<usize>
+        ensures answer { result ≡ place self.old [] (length entry.entry.bytes.now) }
+        ensures written { IfSome result (λ offset. entry_at self.new offset ≡ Some (pair_of entry.entry)) }
         ensures kept { (offset : ℕ) (p : Pair) → entry_at self.old offset ≡ Some p → entry_at self.new offset ≡ Some p }
-        ensures room { place self.new ≡ (if is_some result then after (place self.old) (replica, bytes.now) else place self.old) }
-        ensures packs { used_bytes self.new ≡ (if is_some result then used_bytes self.old ++ packed (replica, bytes.now) else used_bytes self.old) }
+        ensures room { OnSome result (place self.new ≡ after (place self.old) (pair_of entry.entry)) }
+        ensures packs { OnSome result (used_bytes self.new ≡ used_bytes self.old ++ packed (pair_of entry.entry)) }
+        ensures short { OnSome result (length entry.entry.bytes.now ≤ 65535) }
+        ensures full { IfNone result (self.new ≡ self.old) }
     {
-        let Some(offset) = self.offset_for(bytes.len()) else {
-            return None;
-        };
+        let offset = self.offset_for(entry.bytes.len())?;
         let body = offset + HEAD;
-        let end = body + bytes.len();
-        let [high, low] = (bytes.len() as u16).to_be_bytes();
-        self.write(offset, &[replica, high, low]);
-        self.write(body, bytes);
+        let end = body + entry.bytes.len();
+        let [high, low] = (entry.bytes.len() as u16).to_be_bytes();
+        self.write(offset, &[entry.replica, high, low]);
+        self.write(body, entry.bytes);
         self.used = end;
         Some(offset)
     }
@@ -80,8 +71,7 @@ impl<'a> EntryLog<'a> {
     pub(crate) fn in_use(&self) -> &[u8]
         ensures { result.now ≡ used_bytes self.now }
     {
-        let (used, _) = self.memory.split_at(self.used.min(self.memory.len()));
-        used
+        &self.memory[..self.used]
     }
 
     fn write(&mut self, at: usize, bytes: &[u8])
@@ -92,42 +82,4 @@ impl<'a> EntryLog<'a> {
     {
         self.memory[at..at + bytes.len()].copy_from_slice(bytes);
     }
-}
-
-// the entry that these bytes begin with, if they hold it whole
-pub(crate) fn first_entry(bytes: &[u8]) -> Option<Entry<'_>>
-    ensures { option_map pair_of result ≡ first bytes.now }
-{
-    let [replica, high, low, rest @ ..] = bytes else {
-        return None;
-    };
-    let length = u16::from_be_bytes([*high, *low]) as usize;
-    if rest.len() < length {
-        return None;
-    }
-    let (body, _) = rest.split_at(length);
-    Some(Entry {
-        replica: *replica,
-        bytes: body,
-    })
-}
-
-// whether these bytes have an entry of this pair
-pub(crate) fn contains(log: &[u8], replica: u8, bytes: &[u8]) -> bool
-    ensures { result ≡ among (entries log.now) replica bytes.now }
-{
-    let mut rest = log;
-    while let Some(entry) = first_entry(rest) {
-        if is_pair(entry, replica, bytes) {
-            return true;
-        }
-        (_, rest) = rest.split_at(HEAD + entry.bytes.len());
-    }
-    false
-}
-
-pub(crate) fn is_pair(entry: Entry<'_>, replica: u8, bytes: &[u8]) -> bool
-    ensures { result ≡ is_pair (pair_of entry.entry) replica bytes.now }
-{
-    entry.replica == replica && entry.bytes == bytes
 }
