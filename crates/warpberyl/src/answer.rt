@@ -9,7 +9,6 @@ use std::alloc::AllocError;
 use std::fmt;
 use std::fmt::Write;
 use wire::config::ClusterConfig;
-use wire::fault::ReadFault;
 use wire::message::{Message, Report};
 use wire::read::read;
 use wire::request::Request;
@@ -18,7 +17,7 @@ use wire::request::Request;
 const DONE: &str = "ok 0";
 
 // A call's outcome on a line: what it gives, or the refusal.
-pub(crate) fn answer_call<T: fmt::Display + Drop, E: Into<Refusal>>(
+fn answer_call<T: fmt::Display + Drop, E: Into<Refusal>>(
     out: &mut String,
     outcome: Result<T, E>,
 ) -> Result<(), AllocError> {
@@ -39,12 +38,12 @@ pub(crate) fn answer(
 ) -> Result<(), AllocError> {
     match command {
         PlainCommand::Read { size, bytes } => answer_read(out, size, bytes.as_slice()),
-        PlainCommand::Group { size, view } => answer_call(out, group_in(size, view).map(Members)),
+        PlainCommand::Group { size, view } => answer_group(out, size, view),
         PlainCommand::Request {
             client,
             stamp,
             work,
-        } => answer_call(out, Request::new(client, stamp, work).map(|_| DONE)),
+        } => answer_request(out, client, stamp, work),
         PlainCommand::Hash { bytes } => {
             let hash = fnv1a(bytes.as_slice());
             writeln!(out, "{hash:08x}")
@@ -67,9 +66,12 @@ pub(crate) fn answer_register<R: Register>(
     command: RegisterCommand,
 ) -> Result<(), AllocError> {
     match command {
-        RegisterCommand::Seal { replica, bytes } => answer_call(
+        RegisterCommand::Seal { replica, bytes } => answer_seal(
             out,
-            register.seal(replica, bytes.as_slice()).map(|_| DONE),
+            register,
+            replica,
+            bytes.as_slice(),
+            DONE,
         ),
         RegisterCommand::Sealed { replica, bytes } => answer_yes(
             out,
@@ -99,16 +101,31 @@ pub(crate) fn answer_error(out: &mut String, line: u64, reason: Reason) -> Resul
     writeln!(out, "error {line}: {reason}")
 }
 
-fn read_in(size: u8, bytes: &[u8]) -> Result<Message<'_>, ReadFault> {
-    read(ClusterConfig::new(size)?, bytes)
-}
-
 pub(crate) fn answer_read(out: &mut String, size: u8, bytes: &[u8]) -> Result<(), AllocError> {
-    answer_call(out, read_in(size, bytes).map(InWords))
+    let message = ClusterConfig::new(size).and_then(|config| read(config, bytes));
+    answer_call(out, message.map(InWords))
 }
 
-fn group_in(size: u8, view: u32) -> Result<Group, ReadFault> {
-    Group::of_view(ClusterConfig::new(size)?, view)
+fn answer_group(out: &mut String, size: u8, view: u32) -> Result<(), AllocError> {
+    let group = ClusterConfig::new(size).and_then(|config| Group::of_view(config, view));
+    answer_call(out, group.map(Members))
+}
+
+fn answer_request(out: &mut String, client: u16, stamp: u32, work: u64) -> Result<(), AllocError> {
+    let request = Request::new(client, stamp, work);
+    answer_call(out, request.map(|_| DONE))
+}
+
+// Seals bytes under a replica's number, and says so in a word or two.
+pub(crate) fn answer_seal<R: Register>(
+    out: &mut String,
+    register: &mut R,
+    replica: u8,
+    bytes: &[u8],
+    done: &str,
+) -> Result<(), AllocError> {
+    let sealed = register.seal(replica, bytes);
+    answer_call(out, sealed.map(|_| done))
 }
 
 // The members of a group.

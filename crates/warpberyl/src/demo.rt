@@ -1,5 +1,5 @@
 // The built-in story: a request becomes a message and is read back, and damaged messages are refused.
-use crate::answer::{answer_call, answer_read};
+use crate::answer::{answer_read, answer_seal};
 use groups::group::Group;
 use machines::ledger::Ledger;
 use machines::ledger_work::LedgerWork;
@@ -156,24 +156,13 @@ fn tell_seal<R: Register>(
     message: &[u8],
 ) -> fmt::Result {
     write!(out, "  {name}: sealing it: ")?;
-    answer_seal(out, register, 0, message)?;
+    answer_seal(out, register, 0, message, "ok")?;
     let known = register.is_sealed(0, message);
     let other = register.is_sealed(1, message);
     Ok(writeln!(
         out,
         "  {name}: sealed by house 0: {known}, by house 1: {other}"
     )?)
-}
-
-fn answer_seal<R: Register>(
-    out: &mut String,
-    register: &mut R,
-    replica: u8,
-    message: &[u8],
-) -> fmt::Result {
-    let outcome = register.seal(replica, message);
-    answer_call(out, outcome.map(|_| "ok"))?;
-    Ok(())
 }
 
 // Both registers, and one that is full.
@@ -200,7 +189,7 @@ fn tell_registers(out: &mut String, message: [u8; LENGTH]) -> fmt::Result {
     let mut journal = Journal::new(&mut small);
     for house in 0..3u8 {
         write!(out, "  sealed by house {house}: ")?;
-        answer_seal(out, &mut journal, house, &message)?;
+        answer_seal(out, &mut journal, house, &message, "ok")?;
     }
     Ok(())
 }

@@ -1,6 +1,8 @@
 // The program: plays a text line by line.
 #![tactic(auto)]
 
+ghost use Rattle.std.specs.Prelude.{◌<◌, ◌≤◌, length, IfOk, OnSome};
+
 mod answer;
 mod any_machine;
 mod command;
@@ -11,7 +13,7 @@ use answer::{answer, answer_cluster, answer_error, answer_register};
 use any_machine::AnyMachine;
 use command::{Command, Reason, RegisterPlan, parse};
 use demo::demo;
-use options::{Job, Misuse, asked};
+use options::{Job, Misuse};
 use scenario::lines::Lines;
 use seals::index::IndexedJournal;
 use seals::journal::Journal;
@@ -91,6 +93,13 @@ impl<'a> From<Misuse<'a>> for Failure<'a> {
     }
 }
 
+// Outside `read_text`, what fails is the writing of answers.
+impl From<io::Error> for Failure<'_> {
+    fn from(error: io::Error) -> Self {
+        Failure::Answers(error)
+    }
+}
+
 // A play so far: the number of the line, whether each could be understood, the answers not yet written.
 #[derive(Drop)]
 struct Stage {
@@ -149,14 +158,18 @@ impl Stage {
 }
 
 // Plays on with a register, if there is one, until a new cluster is made or the text ends.
-fn play_on<R: Register>(
+fn play_on<R: Register + Drop>(
     rt: &HostRuntime,
     lines: &mut Lines<'_>,
     stage: &mut Stage,
-    mut register: Option<&mut R>,
-) -> io::Result<Option<RegisterPlan>> {
-    for line in lines.by_ref() {
-        let plan = stage.play_line(rt.alloc(), register.as_deref_mut(), line)?;
+    mut register: Option<R>,
+) -> io::Result<Option<RegisterPlan>>
+    ensures within { length lines.new ≤ length lines.old }
+    ensures fewer { IfOk result (λ plan. OnSome plan (length lines.new < length lines.old)) }
+{
+    // a `for` over the lines would not show that fewer are left where it returns
+    while let Some(line) = lines.next() {
+        let plan = stage.play_line(rt.alloc(), register.as_mut(), line)?;
         if plan.is_some() {
             return Ok(plan);
         }
@@ -173,18 +186,21 @@ fn play_with(
     lines: &mut Lines<'_>,
     stage: &mut Stage,
     plan: RegisterPlan,
-) -> io::Result<Option<RegisterPlan>> {
+) -> io::Result<Option<RegisterPlan>>
+    ensures within { length lines.new ≤ length lines.old }
+    ensures fewer { IfOk result (λ plan. OnSome plan (length lines.new < length lines.old)) }
+{
     match plan {
         RegisterPlan::Journal { space } => {
             let mut memory = vec![in rt.alloc(); 0u8; space]?;
-            let mut register = Journal::new(memory.as_mut_slice());
-            play_on(rt, lines, stage, Some(&mut register))
+            let register = Journal::new(memory.as_mut_slice());
+            play_on(rt, lines, stage, Some(register))
         }
         RegisterPlan::Index { space, slots } => {
             let mut memory = vec![in rt.alloc(); 0u8; space]?;
             let mut words = vec![in rt.alloc(); 0u32; slots]?;
-            let mut register = IndexedJournal::new(memory.as_mut_slice(), words.as_mut_slice());
-            play_on(rt, lines, stage, Some(&mut register))
+            let register = IndexedJournal::new(memory.as_mut_slice(), words.as_mut_slice());
+            play_on(rt, lines, stage, Some(register))
         }
     }
 }
@@ -219,7 +235,7 @@ fn play_all<'a>(
 ) -> Result<ExitCode, Failure<'a>> {
     let name = file.unwrap_or("the standard input");
     let text = read_text(rt, file).map_err(|e| Failure::Text(name, e))?;
-    let understood = play(rt, text.as_slice()).map_err(Failure::Answers)?;
+    let understood = play(rt, text.as_slice())?;
     Ok(if understood || keep_going {
         ExitCode::SUCCESS
     } else {
@@ -243,7 +259,7 @@ fn arguments(rt: &HostRuntime) -> io::Result<Vec<String>> {
 }
 
 fn run<'a>(rt: &HostRuntime, words: &'a [String]) -> Result<ExitCode, Failure<'a>> {
-    match asked(words)? {
+    match Job::try_from(words)? {
         Job::Help => tell(rt, HELP),
         Job::Demo => tell_demo(rt),
         Job::Play { keep_going, file } => play_all(rt, keep_going, file),

@@ -52,11 +52,15 @@ fn two_words<'a>(first: &'a str, last: &'a str) -> Result<Job<'a>, Misuse<'a>> {
     Ok(play(true, Some(last)))
 }
 
-pub(crate) fn asked(words: &[String]) -> Result<Job<'_>, Misuse<'_>> {
-    match words {
-        [] => Ok(play(false, None)),
-        [word] => one_word(word.as_str()),
-        [first, last] => two_words(first.as_str(), last.as_str()),
-        [_, _, word, ..] => Err(Misuse::UnexpectedWord(word.as_str())),
+impl<'a> TryFrom<&'a [String]> for Job<'a> {
+    type Error = Misuse<'a>;
+
+    fn try_from(words: &'a [String]) -> Result<Job<'a>, Misuse<'a>> {
+        match words {
+            [] => Ok(play(false, None)),
+            [word] => one_word(word.as_str()),
+            [first, last] => two_words(first.as_str(), last.as_str()),
+            [_, _, word, ..] => Err(Misuse::UnexpectedWord(word.as_str())),
+        }
     }
 }

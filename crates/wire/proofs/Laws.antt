@@ -105,7 +105,7 @@ read_is_written config bs m bytes e = go (kind_of (get_or bs 0 0)) refl a.1
 -- what was not refused fits
 pub fits_of : (o : Option ℕ) (u : Unit {0}) → refused_at o ≡ Ok u → o ≡ None
 fits_of None u e = refl
-fits_of (Some offset) u e = absurd (err_not_ok _ u e)
+fits_of (Some offset) u e = grind arith
 
 -- what stands at the start of a buffer reads back
 pub start_reads : (config : ClusterConfig) (h : ℕ) (s : Statement) (long : ℕ) (later buffer : List ℕ) → Fits config h s → length (writing h s) ≡ long
