@@ -29,15 +29,14 @@ fn fill<R: Register>(register: &mut R, seals: u32) {
 
 // How many of so many look-ups, of that many messages spread over the sealed ones, found theirs.
 fn look_up<R: Register>(register: &mut R, seals: u32, among: u32, times: u32) -> u32 {
+    let Some(apart) = seals.checked_div(among) else {
+        return 0;
+    };
     let mut found: u32 = 0;
     let mut n: u32 = 0;
-    if among == 0 {
-        return found;
-    }
-    let apart = seals / among;
     for _ in 0..times {
         n = n.wrapping_mul(1_664_525).wrapping_add(1_013_904_223);
-        let which = (n >> 8).checked_rem(among).unwrap_or(0).wrapping_mul(apart);
+        let which = ((n >> 8) % among).wrapping_mul(apart);
         if register.is_sealed((which % 5) as u8, &message(which)) {
             found = found.wrapping_add(1);
         }
@@ -52,18 +51,14 @@ fn timed<R: Register>(
     seals: u32,
     among: u32,
     times: u32,
-) -> anyhow::Result<u64> {
+) -> anyhow::Result<u128> {
     let start = Instant::now(rt)?;
     let found = look_up(register, seals, among, times);
     let spent = start.elapsed(rt)?;
     if found != times || times == 0 {
         return Err(anyhow!("a sealed message was not found"));
     }
-    let nanos = spent
-        .as_secs()
-        .wrapping_mul(1_000_000_000)
-        .wrapping_add(u64::from(spent.subsec_nanos()));
-    Ok(nanos / u64::from(times))
+    Ok(spent.as_nanos() / u128::from(times))
 }
 
 // Look-ups of a few messages, whose places stay in the processor's cache, and of all.
@@ -106,14 +101,8 @@ fn run(rt: &HostRuntime) -> anyhow::Result<()> {
 }
 
 fn main(rt: HostRuntime) -> anyhow::Result<()> {
-    let mut asked = false;
-    for word in env::args(&rt)? {
-        if word.as_str() == "--run" {
-            asked = true;
-        }
+    if env::args(&rt)?.any(|word| word.as_str() == "--run") {
+        run(&rt)?;
     }
-    if !asked {
-        return Ok(());
-    }
-    run(&rt)
+    Ok(())
 }

@@ -6,7 +6,7 @@ use Rattle.std.proofs.lemmas.Bool.{or_cases, cases_Bool, both_ways, false≢true
 use Rattle.std.proofs.lemmas.List.{length-set, get_or-set_same, get_or-set_other}
 use Rattle.std.proofs.lemmas.List.Sums.{sum_by-cons}
 use Rattle.seals.specs.Fnv.{fnv1a}
-use Rattle.seals.specs.Registers.{Pair, added, among, is_pair}
+use Rattle.seals.specs.Registers.{Pair, added, among, is_pair, nothing}
 use Rattle.seals.specs.Slots.{contents, empty_slot, ends, ends_at, filled, is_known, pairs_in, probed, Reached, round, vacant}
 use Rattle.seals.proofs.Sealing.{pair_eq}
 use Rattle.seals.proofs.Probing.{found_none, found_passes, found_same, found_within}
@@ -129,20 +129,27 @@ module _ (before after : ℕ → Option Pair) (kept : (offset : ℕ) (p : Pair) 
 
 -- slots that are all empty
 module _ (entry : ℕ → Option Pair) where
-  pub new_filled : (n : ℕ) → filled entry (replicate n empty_slot) ≡ true
+  new_filled : (n : ℕ) → filled entry (replicate n empty_slot) ≡ true
   new_filled zero = refl
   new_filled (suc n) = new_filled n
 
-  pub new_vacant : (n : ℕ) → vacant (contents entry (replicate n empty_slot)) ≡ n
+  new_vacant : (n : ℕ) → vacant (contents entry (replicate n empty_slot)) ≡ n
   new_vacant zero = refl
   new_vacant (suc n) = sum_by-cons _ None (contents entry (replicate n empty_slot)) ∙ omega (arith, new_vacant n)
 
-  pub new_held : (n : ℕ) (replica : ℕ) (bytes : List ℕ) → among (pairs_in (contents entry (replicate n empty_slot))) replica bytes ≡ false
+  new_held : (n : ℕ) (replica : ℕ) (bytes : List ℕ) → among (pairs_in (contents entry (replicate n empty_slot))) replica bytes ≡ false
   new_held zero replica bytes = refl
   new_held (suc n) replica bytes = new_held n replica bytes
 
-  pub new_reached : (n : ℕ) → Reached (contents entry (replicate n empty_slot))
+  pub new_nothing : (n : ℕ) → among (pairs_in (contents entry (replicate n empty_slot))) ≡ nothing
+  new_nothing n = fun_ext (λ r. fun_ext (λ bs. new_held n r bs))
+
+  new_reached : (n : ℕ) → Reached (contents entry (replicate n empty_slot))
   new_reached n replica bytes =
-      ⊎_elim (λ found. absurd (both_ways _ (new_held n replica bytes) (found_held (contents entry (replicate n empty_slot)) replica bytes found)))
+      let cs = contents entry (replicate n empty_slot) in
+      ⊎_elim (λ found. absurd (both_ways _ (new_held n replica bytes) (found_held cs replica bytes found)))
       (λ none. none ∙ sym (new_held n replica bytes))
-      (cases_Bool (is_known (contents entry (replicate n empty_slot)) (probed (contents entry (replicate n empty_slot)) replica bytes)))
+      (cases_Bool (is_known cs (probed cs replica bytes)))
+
+  pub new_sound : (n : ℕ) → Sound entry (replicate n empty_slot) n
+  new_sound n = record { readable = new_filled n; counted = sym (new_vacant n); reached = new_reached n }

@@ -4,7 +4,7 @@ ghost use Rattle.std.specs.Prelude.{◌≤◌, length};
 
 use crate::entry::{Entry, HEAD, LONGEST, split_entry};
 
-// memory, and how much of it holds entries
+// memory, and how much of it holds entries; the caller lends it, since a register has no heap for a Vec
 #[derive(Drop)]
 pub(crate) struct EntryLog<'a> {
     pub(crate) memory: &'a mut [u8],
