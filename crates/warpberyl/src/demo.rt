@@ -82,7 +82,6 @@ fn tell_group(out: &mut String, config: ClusterConfig) -> fmt::Result {
     write!(out, "\nIn view 0 a group of two houses serves:")?;
     let mut joint = "";
     for member in group.members() {
-        let member = *member;
         write!(out, "{joint} house {member}")?;
         joint = " and";
     }
