@@ -66,12 +66,9 @@ fn tell_parts(out: &mut String, message: &[u8]) -> fmt::Result {
     let mut rest = message;
     for (length, meaning) in PARTS {
         let part = rest.split_off(..length).ok_or(fmt::Error)?;
-        write!(out, "  ")?;
-        print(out, part)?;
-        for _ in length..8 {
-            write!(out, "  ")?;
-        }
-        writeln!(out, "  {meaning}")?;
+        let mut digits = String::new(*out.allocator());
+        print(&mut digits, part)?;
+        writeln!(out, "  {digits:<16}  {meaning}")?;
     }
     Ok(())
 }
