@@ -172,6 +172,7 @@ impl<'a> Arguments<'a> {
     }
 }
 
+// Each command reads words of its own, which a `match` says more plainly than a table.
 fn named(heap: Global, name: &[u8], words: &mut Arguments<'_>) -> Result<Command, Reason> {
     match name {
         b"cluster" => {

@@ -75,12 +75,9 @@ fn tell_parts(out: &mut String, message: &[u8]) -> fmt::Result {
     let mut rest = message;
     for (length, meaning) in PARTS {
         let part = rest.split_off(..length).ok_or(fmt::Error)?;
-        write!(out, "  ")?;
-        print(out, part)?;
-        for _ in length..8 {
-            write!(out, "  ")?;
-        }
-        writeln!(out, "  {meaning}")?;
+        let mut digits = String::new(*out.allocator());
+        print(&mut digits, part)?;
+        writeln!(out, "  {digits:<16}  {meaning}")?;
     }
     Ok(())
 }
@@ -91,7 +88,6 @@ fn tell_group(out: &mut String, config: ClusterConfig) -> fmt::Result {
     write!(out, "\nIn view 0 a group of two houses serves:")?;
     let mut joint = "";
     for member in group.members() {
-        let member = *member;
         write!(out, "{joint} house {member}")?;
         joint = " and";
     }

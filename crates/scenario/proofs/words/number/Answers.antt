@@ -8,10 +8,5 @@ returns-in_err-value c =
     let next = onward 18446744073709551615 c.args.base c.loop-b.value c.args.word.now c.loop-b.b-index None c.loop-b-test.true c.in_err-value.ensures.value in
     grind (arith, common_steps, next, numeral_some c.args.base c.args.word.now)
 
-pub loop-b-preserved : goal.loop-b-preserved
-loop-b-preserved c =
-    let next = onward 18446744073709551615 c.args.base c.loop-b.value c.args.word.now c.loop-b.b-index _ c.loop-b-test.true c.in_ok-value.ensures.value in
-    grind (arith, common_steps, next, c.in_ok-value.ensures.within)
-
 pub returns : goal.returns
 returns c = grind (arith, common_steps, numeral_some c.args.base c.args.word.now)
