@@ -1,5 +1,5 @@
 -- Worked examples of the steps and of a run.
-use Rattle.std.specs.Prelude.{◌≡◌, ℕ, ◌+◌, Bool, true, false, List, [], ◌∷◌, map, replicate, Some, None, Ok, Err, Option, Result}
+use Rattle.std.specs.Prelude.{◌≡◌, ℕ, ◌+◌, Bool, true, false, List, [], ◌∷◌, map, replicate, Some, None, Ok, Err, Option, Result, refl}
 use Rattle.std.specs.List.{range_with_len}
 use Rattle.wire.specs.declared.config.ClusterConfig.{ClusterConfig}
 use Rattle.wire.specs.declared.config.ClusterSize.TheVariants.{Three}
@@ -82,7 +82,7 @@ new_three = record { nodes = map (new_node adding three) (range_with_len 0 3); s
 
 -- client 1, stamp 1
 abbrev pub forty : Request
-forty = record { client = 1; stamp = 1; work = 40; valid = tt }
+forty = record { client = 1; stamp = 1; work = 40; valid = refl }
 
 -- 0 orders, 1 hears the PREPARE, 0 hears the COMMIT; carrying out answers at 0 and at 1, and is not allowed at 2
 abbrev pub FirstRequest : Type 0
