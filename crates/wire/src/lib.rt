@@ -18,4 +18,3 @@ mod ranges;
 pub mod read;
 mod reader;
 pub mod request;
-pub mod requests;
