@@ -2,12 +2,13 @@
 use Rattle.std.proofs.Common.{◌≡◌, ℕ, zero, suc, ◌-◌, ◌%◌, ◌<◌, Bool, true, false, ◌||◌, List, ◌∷◌, length, get_or, set, replicate, is_some, Some, None, Option, sym, refl, ap, ◌∙◌, subst, ⊎_elim, mod-lt, arith}
 use mathlib.Core.Path.{fun_ext}
 use Rattle.std.specs.List.{find}
+use Rattle.std.specs.Option.{IfSome}
 use Rattle.std.proofs.lemmas.Bool.{or_cases, cases_Bool, both_ways, false≢true}
-use Rattle.std.proofs.lemmas.List.{length-set, get_or-set_same, get_or-set_other}
+use Rattle.std.proofs.lemmas.List.{length-map, length-set, get_or-set_same, get_or-set_other}
 use Rattle.std.proofs.lemmas.List.Sums.{sum_by-cons}
 use Rattle.seals.specs.Fnv.{fnv1a}
 use Rattle.seals.specs.Registers.{Pair, added, among, is_pair, nothing}
-use Rattle.seals.specs.Slots.{contents, empty_slot, ends, ends_at, filled, is_known, pairs_in, probed, Reached, round, vacant}
+use Rattle.seals.specs.Slots.{content, contents, empty_slot, ends, ends_at, filled, is_known, pairs_in, probed, Reached, round, vacant}
 use Rattle.seals.proofs.Sealing.{pair_eq}
 use Rattle.seals.proofs.Probing.{found_none, found_passes, found_same, found_within}
 use Rattle.seals.proofs.Filling.{among_fill, contents_kept, contents_put, filled_kept, filled_set, held_among, round_all, round_within, vacant_fill, vacant_none, vacant_some}
@@ -27,6 +28,10 @@ found_held cs replica bytes e = by_end (probed cs replica bytes) refl e
 -- the slot that a search ends at is there
 pub slot_within : (cs : List (Option Pair)) (replica : ℕ) (bytes : List ℕ) (k : ℕ) → probed cs replica bytes ≡ Some k → k < length cs
 slot_within cs replica bytes k e = found_within _ k (λ j. j < length cs) _ (round_within (fnv1a (replica ∷ bytes) % length cs) (length cs)) e
+
+pub slots_within : (entry : ℕ → Option Pair) (slots : List ℕ) (replica : ℕ) (bytes : List ℕ) (o : Option ℕ) → o ≡ probed (contents entry slots) replica bytes → IfSome o (λ k. k < length slots)
+slots_within entry slots replica bytes None e = tt
+slots_within entry slots replica bytes (Some k) e = omega (arith, slot_within (contents entry slots) replica bytes k (sym e), length-map slots (content entry))
 
 -- a search that ends nowhere met no empty slot
 pub full_slots : (cs : List (Option Pair)) (replica : ℕ) (bytes : List ℕ) → probed cs replica bytes ≡ None → vacant cs ≡ 0

@@ -22,9 +22,7 @@ pub fn fnv1a_pair(replica: u8, bytes: &[u8]) -> u32
 fn absorb(start: u32, bytes: &[u8]) -> u32
     ensures { result ≡ fold step start bytes.now }
 {
-    bytes
-        .iter()
-        .fold(start, |hash, byte| absorb_byte(hash, *byte))
+    bytes.iter().copied().fold(start, absorb_byte)
 }
 
 fn absorb_byte(hash: u32, byte: u8) -> u32

@@ -47,11 +47,6 @@ below c =
     let h : holdable c.offset_for.result ≡ true = search rules in
     ltb-true c.unwrap-offset.result empty_slot (ap holdable (sym e) ∙ h)
 
-pub overflow_sub-self : goal.overflow_sub-self
-overflow_sub-self c =
-    let a = (goal.at.overflow_sub-self c).After-append in
-    omega (arith, vacant_free (index_contents c.args.self.now) c.args.replica c.args.bytes.now c.in_ok-slot.slot (ended a) (free a), c.args.self.now.counted)
-
 pub invariant_of-self-2 : goal.invariant_of-self-2
 invariant_of-self-2 c =
     let x = c.args.self.now in
@@ -59,13 +54,13 @@ invariant_of-self-2 c =
     let s = sound_filled _ _ c.append.ensures.kept x.slots.now x.empty (sound x) c.args.replica c.args.bytes.now c.in_ok-slot.slot c.unwrap-offset.result (ended a) (free a) (written c) (below c) in
     record { readable = s.readable; counted = s.counted; reached = s.reached }
 
-pub returns : goal.returns
-returns c =
+pub returns-clause-leaves : goal.returns-clause-leaves
+returns-clause-leaves c =
     let x = c.args.self.now in
     let r = c.args.replica in
     let b = c.args.bytes.now in
-    let a = (goal.at.returns c).After-append in
-    let u = (goal.at.returns c).After-unwrap-offset in
+    let a = (goal.at.returns-clause-leaves c).After-append in
+    let u = (goal.at.returns-clause-leaves c).After-unwrap-offset in
     let room : 0 < x.empty = omega (arith, vacant_free (index_contents x) r b c.in_ok-slot.slot (ended a) (free a), x.counted) in
     let n : (index_state x).sealed r b ≡ false = sym (x.reached r b) ∙ ap (is_known (index_contents x)) (ended a) ∙ ap is_some (free a) in
     let h : holdable (place x.log [] (length b)) ≡ true = search rules in
@@ -73,4 +68,4 @@ returns c =
     let e : place c.append.new.self ≡ after (place x.log) (r, b) = search rules in
     let g = fits_after x.empty (r, b) (place x.log) (place c.append.new.self) room e in
     let p = held_filled _ _ c.append.ensures.kept x.slots.now x.empty (sound x) r b c.in_ok-slot.slot c.unwrap-offset.result (ended a) (free a) (written u) (below u) in
-    record { answer = s.answer; leaves = rw (p, g) s.leaves; succeeds = s.succeeds }
+    rw (p, g) s.leaves
