@@ -34,6 +34,7 @@ fn look_up<R: Register>(register: &mut R, seals: u32, among: u32, times: u32) ->
     };
     let mut found: u32 = 0;
     let mut n: u32 = 0;
+    // each turn draws the next number, so a chain would change a capture
     for _ in 0..times {
         n = n.wrapping_mul(1_664_525).wrapping_add(1_013_904_223);
         let which = ((n >> 8) % among).wrapping_mul(apart);
@@ -76,6 +77,7 @@ fn measure<R: Register>(
     Ok(())
 }
 
+// The two registers are lent different memory; the rest of the measurement is one.
 fn measure_index(rt: &HostRuntime, seals: u32) -> anyhow::Result<()> {
     let mut memory = vec![in rt.alloc(); 0u8; ENTRY * seals as usize]?;
     let mut slots = vec![in rt.alloc(); 0u32; 2 * seals as usize]?;

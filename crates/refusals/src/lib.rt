@@ -16,6 +16,7 @@ pub enum Layer {
 }
 
 // The number says why, the layer who refused, and the place where in the input.
+// The number stands as it is printed: the reasons of each layer are the cases of its own fault, which becomes a refusal by From.
 #[derive(Clone, Copy, PartialEq, Eq, Debug)]
 pub struct Refusal {
     pub number: u8,

@@ -1,4 +1,5 @@
 // Sending: a message is written at the start of the lent buffer and sealed.
+// Register and buffer are lent to each call as two parameters: a struct of two `&mut` would have to be built at each call and hide what comes back.
 ghost use Rattle.std.specs.Prelude.{◌≡◌, ◌≤◌, true, length};
 ghost use Rattle.wire.specs.Drafts.{stating};
 ghost use Rattle.wire.specs.Laws.{Fits};

@@ -12,7 +12,7 @@ pub fn fnv1a(bytes: &[u8]) -> u32
     absorb(OFFSET_BASIS, bytes)
 }
 
-// the hash of a sealed pair: of the replica's byte and then the bytes
+// the hash of a sealed pair: of the replica's byte and then the bytes, which callers hold apart; both hashes are one fold
 pub fn fnv1a_pair(replica: u8, bytes: &[u8]) -> u32
     ensures { result ≡ hash_of (replica ∷ bytes.now) }
 {

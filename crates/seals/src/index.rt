@@ -13,6 +13,7 @@ use crate::register::Register;
 const EMPTY: u32 = 4294967295;
 
 // a journal, slots that are each empty or hold the offset of an entry, and how many are empty
+// The count is kept, since has_room would else read every slot.
 #[derive(Drop)]
 pub struct IndexedJournal<'a> {
     pub(crate) log: EntryLog<'a>,

@@ -30,7 +30,7 @@ fn answer_call<T: fmt::Display + Drop, E: Into<Refusal>>(
     }
 }
 
-// Answers a command that needs no cluster.
+// Answers a command that needs no cluster. A plain match: each command has parts of its own.
 pub(crate) fn answer(
     out: &mut String,
     machine: &mut AnyMachine,

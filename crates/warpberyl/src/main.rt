@@ -105,6 +105,7 @@ impl From<io::Error> for Failure<'_> {
 #[derive(Drop)]
 struct Stage {
     number: u64,
+    // no value stands beside it: lines that could not be understood are answered at once
     understood: bool,
     machine: AnyMachine,
     out: String,
@@ -181,7 +182,7 @@ fn play_on<R: Register + Drop>(
     Ok(None)
 }
 
-// Plays on with a new register.
+// Plays on with a new register. The arms differ in what they lend to it.
 fn play_with(
     rt: &HostRuntime,
     lines: &mut Lines<'_>,

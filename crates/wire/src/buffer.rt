@@ -68,6 +68,7 @@ pub(crate) fn put_closing(out: &mut [u8], mask: u16)
     put(out, 13, &mask.to_be_bytes());
 }
 
+// A row of a report is its number alone, so the rows are counted.
 fn put_table(out: &mut [u8], rows: u8)
     requires { 7 + 6 * rows ≤ length out.old }
     ensures { out.new ≡ over 7 (table_bytes rows 1) out.old }

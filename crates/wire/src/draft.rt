@@ -21,7 +21,7 @@ pub struct Draft<'a> {
     pub content: Content<'a>,
 }
 
-// What a message of each kind says.
+// What a message of each kind says. Number and request stand in three cases as fields: a struct of both would be taken apart at each use.
 #[derive(Clone, Copy)]
 pub enum Content<'a> {
     Prepare {

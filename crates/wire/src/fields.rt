@@ -66,6 +66,7 @@ impl Message<'_> {
     }
 }
 
+// Bytes that no reader accepted may make no request: the blank one then stands there, so that each row has an entry.
 fn entry_of(body: &[u8]) -> LogEntry
     requires { 18 ≤ length body.now }
     ensures { result ≡ entry_in body.now }
