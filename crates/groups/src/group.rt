@@ -1,5 +1,5 @@
 // A group: the t + 1 replicas that serve a view.
-ghost use Rattle.std.specs.Prelude.{◌≡◌};
+ghost use Rattle.std.specs.Prelude.{◌≡◌, ◌%◌, ◌<◌, Some, length, slice_get};
 ghost use Rattle.groups.specs.Groups.{group, among, leader, follows};
 ghost use Rattle.groups.specs.Asked.{members_of, members_in, asked};
 
@@ -7,7 +7,7 @@ use wire::config::{ClusterConfig, ClusterSize};
 use wire::fault::ReadFault;
 use wire::kind::LAST_VIEW;
 
-// The rows are written out: no heap is there to build them, and the laws are computed from them.
+// The rows are written out, since the laws are computed from them. The two tables differ in what they hold.
 const ROWS_OF_THREE: [[u8; 2]; 3] = [[0, 1], [0, 2], [1, 2]];
 
 const ROWS_OF_FIVE: [[u8; 3]; 10] = [
@@ -23,6 +23,14 @@ const ROWS_OF_FIVE: [[u8; 3]; 10] = [
     [2, 3, 4],
 ];
 
+// The row of a table that serves a view.
+fn row<const K: usize>(rows: &'static [[u8; K]], view: u32) -> &'static [u8]
+    requires { 0 < length rows.now }
+    ensures { slice_get rows.now (view % length rows.now) ≡ Some result.now }
+{
+    &rows[view as usize % rows.len()]
+}
+
 // The members in rising order.
 #[derive(Clone, Copy)]
 pub struct Group {
@@ -34,10 +42,9 @@ impl Group {
     pub fn serving(config: ClusterConfig, view: u32) -> Group
         ensures { members_of result ≡ group config view }
     {
-        let view = view as usize;
-        let members: &'static [u8] = match config.size() {
-            ClusterSize::Three => &ROWS_OF_THREE[view % ROWS_OF_THREE.len()],
-            ClusterSize::Five => &ROWS_OF_FIVE[view % ROWS_OF_FIVE.len()],
+        let members = match config.size() {
+            ClusterSize::Three => row(&ROWS_OF_THREE, view),
+            ClusterSize::Five => row(&ROWS_OF_FIVE, view),
         };
         Group { members }
     }

@@ -14,7 +14,7 @@ const PRINT: u8 = 2;
 
 const ASK: u8 = 3;
 
-// A piece may be any byte, since works of pieces that there are not are written too, and refused when read.
+// A work may name a piece that does not exist: it is written, and refused when read.
 #[derive(Clone, Copy, PartialEq, Eq, Debug)]
 pub enum LedgerWork {
     Buy { piece: u8, copies: u32 },

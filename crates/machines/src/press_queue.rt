@@ -1,5 +1,5 @@
 // The press queue: jobs that wait for a press, the oldest first.
-ghost use Rattle.std.specs.Prelude.{◌≡◌, ◌≤◌, ℕ, List};
+ghost use Rattle.std.specs.Prelude.{◌≡◌, ◌≤◌};
 ghost use Rattle.arrayvec.specs.ArrayVec.{array_vec_len};
 ghost use Rattle.machines.specs.declared.queue_work.QueueWork.TheVariants.{Put, Take};
 ghost use Rattle.machines.specs.Outcomes.{outcome_of};
@@ -9,28 +9,20 @@ use crate::machine::Machine;
 use crate::queue_work::QueueWork;
 use crate::reason::Reason;
 use arrayvec::ArrayVec;
-use std::marker::Model;
 
 // how many jobs may wait at most
 pub const JOBS: usize = 16;
 
+// The jobs that wait, the oldest first.
 #[derive(Drop)]
 pub struct PressQueue {
     jobs: ArrayVec<u32, JOBS>,
-}
-
-// A contract sees the jobs that wait, the oldest first.
-impl Model for PressQueue {
-    ghost Value = { List ℕ };
-
-    ghost view = { λ q. q.jobs.items };
-
-    ghost invariant = { λ q. array_vec_len q.jobs ≤ most_jobs };
+    ghost within: { array_vec_len jobs ≤ most_jobs },
 }
 
 impl PressQueue {
     pub fn new() -> PressQueue
-        ensures { result ≡ press_queue.fresh }
+        ensures { result.jobs.items ≡ press_queue.fresh }
     {
         PressQueue {
             jobs: ArrayVec::new(),
@@ -38,23 +30,24 @@ impl PressQueue {
     }
 
     fn put(&mut self, job: u32) -> Result<u64, Reason>
-        ensures state { self.new ≡ (queue_does self.old (Put job)).0 }
-        ensures outcome { outcome_of result ≡ (queue_does self.old (Put job)).1 }
+        ensures state { self.new.jobs.items ≡ (queue_does self.old.jobs.items (Put job)).0 }
+        ensures outcome { outcome_of result ≡ (queue_does self.old.jobs.items (Put job)).1 }
     {
         self.jobs.try_push(job).map_err(|_| Reason::QueueFull)?;
         Ok(self.jobs.len() as u64)
     }
 
     fn take(&mut self) -> Result<u64, Reason>
-        ensures state { self.new ≡ (queue_does self.old Take).0 }
-        ensures outcome { outcome_of result ≡ (queue_does self.old Take).1 }
+        ensures state { self.new.jobs.items ≡ (queue_does self.old.jobs.items Take).0 }
+        ensures outcome { outcome_of result ≡ (queue_does self.old.jobs.items Take).1 }
     {
         self.jobs.pop_at(0).map(u64::from).ok_or(Reason::QueueEmpty)
     }
 
+    // Each machine has these two steps of its own: a shared one would shut out other makers.
     fn perform(&mut self, work: u64) -> Result<u64, Reason>
-        ensures state { self.new ≡ (press_queue.step self.old work).0 }
-        ensures outcome { outcome_of result ≡ (press_queue.step self.old work).1 }
+        ensures state { self.new.jobs.items ≡ (press_queue.step self.old.jobs.items work).0 }
+        ensures outcome { outcome_of result ≡ (press_queue.step self.old.jobs.items work).1 }
     {
         match QueueWork::try_from(work)? {
             QueueWork::Put { job } => self.put(job),
@@ -66,7 +59,7 @@ impl PressQueue {
 impl Machine for PressQueue {
     ghost meaning = { press_queue };
 
-    ghost state = { λ jobs. jobs };
+    ghost state = { λ q. q.jobs.items };
 
     fn reset(&mut self) {
         self.jobs.clear();

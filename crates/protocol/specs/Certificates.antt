@@ -1,5 +1,5 @@
 -- Which votes certify a request, and what the register knows of them.
-use Rattle.std.specs.Prelude.{ℕ, suc, Bool, true, ◌&&◌, List, [], ◌∷◌, Some, None, Option, if◌then◌else◌}
+use Rattle.std.specs.Prelude.{ℕ, suc, Bool, List, [], ◌∷◌, Some, None, Option, if◌then◌else◌}
 use Rattle.std.specs.List.{list_all}
 use Rattle.wire.specs.declared.config.ClusterConfig.{ClusterConfig}
 use Rattle.wire.specs.declared.entry.LogEntry.{LogEntry}

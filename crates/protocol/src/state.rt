@@ -24,14 +24,14 @@ pub enum Phase {
     Closed,
 }
 
-// A report that is held: its first `len` entries. Fixed memory, no heap: an array filled up to a count, no `Vec`.
+// A report that is held: its first `len` entries. An array with a count is `Copy`, as a place that is filled and cleared; an `ArrayVec` is not.
 #[derive(Clone, Copy)]
 pub struct HeldReport {
     pub len: u8,
     pub entries: [LogEntry; NUMBERS],
 }
 
-// The arrays have their full size from the start, with counts beside them, since a replica keeps its state in fixed memory, with no heap.
+// A plain struct of arrays, full from the start, is a rule of the project, and the definitions under the theorem name its very fields.
 #[derive(Drop)]
 pub struct State {
     pub config: ClusterConfig,

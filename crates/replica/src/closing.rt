@@ -28,7 +28,7 @@ fn count_held(state: &State, n: u8) -> usize
     (0..n).filter(|&replica| is_held(state, replica)).count()
 }
 
-// A plain loop: over a filter, or in a fold, that the shift is below sixteen stays unproved.
+// A plain loop: a fold over a filter is no plainer, and its proof would have to follow shifts of sixteen and more.
 fn mask_held(state: &State, n: u8) -> u16
     requires { n ≤ most_replicas }
     ensures { result ≡ mask_of n (holds state.now) }

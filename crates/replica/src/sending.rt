@@ -26,7 +26,7 @@ pub(crate) fn check_room<R: Register>(
         return Err(ReplicaFault::ShortBuffer);
     }
     if !register.has_room(len) {
-        return Err(ReplicaFault::Register(RegisterFault::Full));
+        return Err(RegisterFault::Full.into());
     }
     Ok(())
 }

@@ -48,11 +48,11 @@ impl<M: Machine + Drop> Replica<M> {
     // A size other than 3 and 5, and a number outside the cluster, are refused.
     pub fn new(size: u8, number: u8, machine: M) -> Result<Replica<M>, ReplicaFault>
         ensures state { state_in result ≡ set_up_of size number }
-        ensures fresh { IfOk result (λ replica. M.Machine.state replica.machine ≡ M.Machine.meaning.fresh) }
+        ensures fresh { IfOk result (λ replica. M.state replica.machine ≡ M.meaning.fresh) }
     {
         let config = ClusterConfig::new(size)?;
         if number >= config.n() {
-            return Err(ReplicaFault::Read(ReadFault::Setting));
+            return Err(ReadFault::Setting.into());
         }
         let mut machine = machine;
         machine.reset();

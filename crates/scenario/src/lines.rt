@@ -22,7 +22,8 @@ fn cut<P: Fn(u8) -> bool>(text: &[u8], passes: P) -> (&[u8], &[u8])
     text.split_at(end.unwrap_or(text.len()))
 }
 
-// The lines of a text, in order. What ends a line is in none.
+// The lines of a text, in order. The end of a line belongs to no line.
+// Lines and words differ in what `next` cuts off; the text that is left is all that they share.
 #[derive(Drop)]
 pub struct Lines<'a> {
     text: &'a [u8],

@@ -9,7 +9,7 @@ use crate::fnv::fnv1a_pair;
 use crate::log::EntryLog;
 use crate::register::Register;
 
-// the value of an empty slot; offsets stay below it. A slot is 4 bytes of lent memory, and an Option would take more
+// the value of an empty slot; offsets stay below it. Callers lend slots as numbers of 32 bits, so a number stands for none
 const EMPTY: u32 = 4294967295;
 
 // a journal, slots that are each empty or hold the offset of an entry, and how many are empty

@@ -1,6 +1,6 @@
 // A register of seals: the set of (replica, bytes) pairs that were sealed, and which lengths fit.
 // Whoever makes one says by a ghost member what it means: what is sealed and what fits, also after further pairs.
-// A pair comes as its two parts, which callers hold apart: a struct made at each call would be no plainer.
+// A pair comes as its two parts, which callers hold apart.
 ghost use Rattle.std.specs.Prelude.{◌≡◌, true, length, Ok};
 ghost use Rattle.seals.specs.Registers.{RegisterState, after_sealing, sealing};
 

@@ -128,7 +128,7 @@ pub(crate) fn answer_seal<R: Register>(
     answer_call(out, sealed.map(|_| done))
 }
 
-// The members of a group.
+// The answer about a group: its members.
 #[derive(Clone, Copy)]
 struct Members(Group);
 
@@ -149,17 +149,10 @@ struct InWords<'a>(Message<'a>);
 impl fmt::Display for InWords<'_> {
     fn fmt<W: fmt::Write>(&self, f: &mut fmt::Formatter<W>) -> fmt::Result {
         let message = self.0;
+        let kind = message.kind();
         let house = message.replica();
         let view = message.view();
-        let name = match message {
-            Message::Prepare(_) => "PREPARE",
-            Message::Commit(_) => "COMMIT",
-            Message::Doubt(_) => "DOUBT",
-            Message::Report(_) => "REPORT",
-            Message::Closing(_) => "CLOSING",
-            Message::Reply(_) => "REPLY",
-        };
-        write!(f, "{name} house {house} view {view}")?;
+        write!(f, "{kind} house {house} view {view}")?;
         match message {
             Message::Prepare(vote) | Message::Commit(vote) => tell_request(
                 f,

@@ -3,7 +3,7 @@ use machines::ledger::Ledger;
 use machines::machine::Machine;
 use machines::press_queue::PressQueue;
 
-// The makers mean two machines, and an `impl Machine` has one meaning, so this has none.
+// The two have different meanings, and an `impl Machine` has one, so this enum has no such impl, and no `dyn` can join them.
 #[derive(Drop)]
 pub(crate) enum AnyMachine {
     Ledger(Ledger),

@@ -18,7 +18,7 @@ use wire::request::Request;
 
 const SIZE: u8 = 3;
 
-// How long a PREPARE is.
+// How long a PREPARE is, as a constant, since it is the length of an array.
 const LENGTH: usize = 27;
 
 // The parts of a PREPARE: how many bytes each has, and what they say here.
@@ -99,6 +99,7 @@ fn tell_read(out: &mut String, what: &str, bytes: &[u8]) -> fmt::Result {
     Ok(answer_read(out, SIZE, bytes)?)
 }
 
+// What the reader says of the message with some damage done to it.
 fn tell_damaged<D: FnOnce(&mut [u8; LENGTH])>(
     out: &mut String,
     message: [u8; LENGTH],

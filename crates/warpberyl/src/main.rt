@@ -100,7 +100,7 @@ impl From<io::Error> for Failure<'_> {
     }
 }
 
-// A play so far: the line's number, whether each could be understood, the answers not yet written.
+// A play so far: the line's number, whether each line so far was understood, the answers not yet written.
 // The number counts on over all the clusters of a text, so it stands here and in no loop.
 #[derive(Drop)]
 struct Stage {

@@ -1,7 +1,7 @@
 -- The entries that were read are those that stand in the bodies.
-use Rattle.std.proofs.Common.{◌≡◌, ℕ, zero, suc, ◌+◌, ◌*◌, ◌/◌, Bool, true, false, ltb, List, ◌∷◌, length, take, drop, Some, None, Ok, Err, Option, Result, unwrap_or, sym, refl, ap, ◌∙◌, arith}
+use Rattle.std.proofs.Common.{◌≡◌, ℕ, zero, suc, ◌+◌, ◌*◌, ◌/◌, ◌<◌, ◌≤◌, Bool, true, false, not-suc-le-zero, ltb, drop-drop, List, ◌∷◌, length, take, drop, Some, None, Ok, Err, Option, Result, unwrap_or, sym, refl, ap, ◌∙◌, arith}
 use Rattle.std.proofs.lemmas.List.{drop-take}
-use Rattle.std.specs.List.{IsSplitAt}
+use Rattle.std.specs.List.{IsSplitAt, slice_get}
 use Rattle.std.specs.Option.{ok_or}
 use Rattle.wire.specs.declared.entry.LogEntry.{LogEntry}
 use Rattle.wire.specs.declared.fault.ReadFault.{ReadFault}
@@ -71,3 +71,15 @@ entries_first bs body rest cut =
     let n : length bs / 18 ≡ suc (length rest / 18) = omega (arith, cut.4) in
     let first = ap entry_in cut.1 ∙ entry_in_part bs in
     ap (λ (k : ℕ). entries_in k bs) n ∙ sym (λ i. first i ∷ entries_in (length rest / 18) (cut.2 i))
+
+-- the entry of a row
+pub entry_at : (rows row : ℕ) (bs : List ℕ) → row < rows → slice_get (entries_in rows bs) row ≡ Some (entry_in (drop (18 * row) bs))
+entry_at zero row bs within = absurd (not-suc-le-zero within)
+entry_at (suc rows) zero bs within = refl
+entry_at (suc rows) (suc row) bs within =
+    entry_at rows row (drop 18 bs) (omega arith) ∙ ap (λ (l : List ℕ). Some (entry_in l)) (drop-drop (18 * row) 18 bs ∙ ap (λ (k : ℕ). drop k bs) (omega arith))
+
+pub no_entry_past : (rows row : ℕ) (bs : List ℕ) → rows ≤ row → slice_get (entries_in rows bs) row ≡ None
+no_entry_past zero row bs past = refl
+no_entry_past (suc rows) zero bs past = absurd (not-suc-le-zero past)
+no_entry_past (suc rows) (suc row) bs past = no_entry_past rows row (drop 18 bs) (omega arith)

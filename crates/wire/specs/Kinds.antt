@@ -1,5 +1,5 @@
 -- The six kinds of message: the number that stands for each, its rows and its bodies.
-use Rattle.std.specs.Prelude.{ℕ, ◌+◌, ◌*◌, Bool, false, cond, ◌&&◌, Some, None, Option, ◌==◌, nat_le}
+use Rattle.std.specs.Prelude.{ℕ, ◌+◌, ◌*◌, Bool, false, cond, ◌&&◌, List, Some, None, Option, ◌==◌, nat_le, codes}
 use Rattle.wire.specs.declared.kind.Kind.{Kind}
 use Rattle.wire.specs.declared.kind.Kind.TheVariants.{Prepare, Commit, Doubt, Report, Closing, Reply}
 
@@ -11,6 +11,15 @@ kind_number Doubt = 3
 kind_number Report = 4
 kind_number Closing = 5
 kind_number Reply = 6
+
+-- what prints of a kind
+abbrev pub kind_name : Kind → List ℕ
+kind_name Prepare = codes "PREPARE"
+kind_name Commit = codes "COMMIT"
+kind_name Doubt = codes "DOUBT"
+kind_name Report = codes "REPORT"
+kind_name Closing = codes "CLOSING"
+kind_name Reply = codes "REPLY"
 
 -- the kind that a number stands for
 abbrev pub kind_of : ℕ → Option Kind

@@ -1,4 +1,5 @@
-// Writing the pieces of a message into a buffer.
+// Writing the pieces of a message into a buffer. Each piece takes the offset that the format gives it: a writer that
+// counts would hide the layout.
 ghost use Rattle.std.specs.Prelude.{◌≡◌, ◌+◌, ◌*◌, ◌≤◌, ◌++◌, length};
 ghost use Rattle.wire.specs.declared.kind.Kind.TheVariants.{Closing, Reply};
 ghost use Rattle.wire.specs.Buffers.{over};
@@ -10,7 +11,7 @@ use crate::entry::LogEntry;
 use crate::kind::Kind;
 use crate::request::Request;
 
-pub(crate) fn put(out: &mut [u8], at: usize, bytes: &[u8])
+fn put(out: &mut [u8], at: usize, bytes: &[u8])
     requires { at + length bytes.now ≤ length out.old }
     ensures { out.new ≡ over at bytes.now out.old }
 {
@@ -26,7 +27,7 @@ pub(crate) fn put_head(out: &mut [u8], kind: Kind, replica: u8, view: u32, rows:
     put(out, 6, &[rows]);
 }
 
-pub(crate) fn put_row(out: &mut [u8], at: usize, kind: Kind, number: u32)
+fn put_row(out: &mut [u8], at: usize, kind: Kind, number: u32)
     requires { at + 6 ≤ length out.old }
     ensures { out.new ≡ over at (row_bytes kind number) out.old }
 {

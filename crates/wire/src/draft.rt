@@ -10,10 +10,11 @@ use crate::config::ClusterConfig;
 use crate::entry::LogEntry;
 use crate::fault::ReadFault;
 use crate::kind::Kind;
-use crate::ranges::{check_entries, check_head, check_mask, check_number};
+use crate::ranges::{check_head, check_mask, check_number, check_report};
 use crate::request::Request;
 
-// Who says what, and in which view.
+// Who says what, and in which view. A report that is written holds entries and one that was read holds bytes,
+// so a draft is a type beside `Message`.
 #[derive(Clone, Copy)]
 pub struct Draft<'a> {
     pub replica: u8,
@@ -80,12 +81,12 @@ impl Draft<'_> {
         check_head(config, self.replica, self.view)?;
         match self.content {
             Content::Doubt => Ok(()),
-            Content::Report { entries } => check_entries(self.view, entries),
+            Content::Report { entries } => check_report(self.view, entries),
             Content::Closing { mask } => check_mask(config, mask),
             Content::Prepare { number, .. } | Content::Commit { number, .. } => {
                 check_number(number)
             }
-            // named, so that its eight bytes are known
+            // named, so that the check knows its range
             Content::Reply {
                 number,
                 outcome: _outcome,

@@ -141,7 +141,11 @@ impl<'a> Report<'a> {
     pub fn entry(&self, row: usize) -> Option<LogEntry>
         ensures { result ≡ slice_get (entries_of self.now) row }
     {
-        self.entries().nth(row)
+        if row >= self.len() {
+            return None;
+        }
+        let (_, body) = self.bodies.split_at(18 * row);
+        Some(entry_of(body))
     }
 }
 

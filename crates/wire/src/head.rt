@@ -5,6 +5,7 @@ ghost use Rattle.wire.specs.Bytes.{num};
 
 use crate::fault::ReadFault;
 
+// What came, as yet unchecked: the kind is a number, and `Parts` has what was checked of it.
 #[derive(Clone, Copy)]
 pub(crate) struct Head<'a> {
     pub(crate) kind: u8,

@@ -1,9 +1,10 @@
 // The six kinds of message.
 ghost use Rattle.std.specs.Prelude.{◌≡◌, ◌<◌, Some, None, MatchResult};
 ghost use Rattle.wire.specs.declared.fault.ReadFault.TheVariants.{UnknownKind};
-ghost use Rattle.wire.specs.Kinds.{kind_of, kind_number, may_count, may_number, body_length, message_length};
+ghost use Rattle.wire.specs.Kinds.{kind_of, kind_number, kind_name, numbered, may_count, may_number, body_length, message_length};
 
 use crate::fault::ReadFault;
+use std::fmt;
 
 // The last view and the last number of a request.
 pub const LAST_VIEW: u32 = 999_999;
@@ -18,6 +19,13 @@ pub enum Kind {
     Report,
     Closing,
     Reply,
+}
+
+// Whether a request may have that number.
+pub(crate) fn is_numbered(number: u32) -> bool
+    ensures { result ≡ numbered number }
+{
+    1 <= number && number <= u32::from(LAST_NUMBER)
 }
 
 // The kind that a number stands for.
@@ -54,6 +62,22 @@ impl From<Kind> for u8 {
     }
 }
 
+impl fmt::Display for Kind {
+    ghost output = { λ kind. Some (kind_name kind) };
+
+    fn fmt<W: fmt::Write>(&self, f: &mut fmt::Formatter<W>) -> fmt::Result {
+        let name = match self {
+            Kind::Prepare => "PREPARE",
+            Kind::Commit => "COMMIT",
+            Kind::Doubt => "DOUBT",
+            Kind::Report => "REPORT",
+            Kind::Closing => "CLOSING",
+            Kind::Reply => "REPLY",
+        };
+        write!(f, "{name}")
+    }
+}
+
 impl Kind {
     // Whether a message of this kind may have that many rows.
     pub(crate) fn may_count(self, rows: u8) -> bool
@@ -75,7 +99,7 @@ impl Kind {
             Kind::Doubt => false,
             Kind::Report => number as usize == row + 1,
             Kind::Closing => number == 0,
-            _ => 1 <= number && number <= u32::from(LAST_NUMBER),
+            _ => is_numbered(number),
         }
     }
 

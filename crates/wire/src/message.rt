@@ -1,5 +1,5 @@
 // A read message: one of the six kinds, with the parts of the input that it holds.
-// Replica and view stand in each case, not beside the enum, so that a case alone is the whole message.
+// The form is fixed: an enum whose cases hold all of a message, with its parts of the input. So replica and view stand in each case.
 use crate::request::Request;
 
 #[derive(Clone, Copy)]

@@ -27,6 +27,7 @@ pub(crate) struct Parts<'a> {
     ghost bodies_len: { length bodies.now ≡ rows * body_length kind },
 }
 
+// What a result says and holds depends on the function, so both clauses stand at each.
 impl<'a> Parts<'a> {
     fn read_vote(self) -> Result<Vote<'a>, ReadFault>
         requires { (4 ≤ length self.contents.now) × (14 ≤ length self.bodies.now) }

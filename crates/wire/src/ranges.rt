@@ -1,5 +1,5 @@
 // The ranges of a message's fields.
-ghost use Rattle.std.specs.Prelude.{◌≡◌, ◌*◌, ◌+◌, ◌≤◌, length, ◌<◌, None, IfSome, nat_le, nat_lt};
+ghost use Rattle.std.specs.Prelude.{◌≡◌, ◌*◌, ◌+◌, length, ◌<◌, None, IfSome, nat_le, nat_lt};
 ghost use Rattle.std.specs.List.{position_from};
 ghost use Rattle.wire.specs.Configs.{replicas};
 ghost use Rattle.wire.specs.Kinds.{numbered, last_number, last_view};
@@ -9,7 +9,7 @@ ghost use Rattle.wire.specs.Writing.{field, late_entry, refused_at};
 use crate::config::ClusterConfig;
 use crate::entry::LogEntry;
 use crate::fault::ReadFault;
-use crate::kind::{LAST_NUMBER, LAST_VIEW};
+use crate::kind::{LAST_NUMBER, LAST_VIEW, is_numbered};
 use crate::mask::may_close;
 
 pub(crate) fn check_head(config: ClusterConfig, replica: u8, view: u32) -> Result<(), ReadFault>
@@ -27,7 +27,7 @@ pub(crate) fn check_head(config: ClusterConfig, replica: u8, view: u32) -> Resul
 pub(crate) fn check_number(number: u32) -> Result<(), ReadFault>
     ensures { result ≡ refused_at (field (numbered number) 7 None) }
 {
-    if number < 1 || number > u32::from(LAST_NUMBER) {
+    if !is_numbered(number) {
         return Err(ReadFault::Field(7));
     }
     Ok(())
@@ -51,7 +51,7 @@ fn first_late(view: u32, entries: &[LogEntry]) -> Option<usize>
 }
 
 // There are not too many entries, and the view of each is below the report's.
-pub(crate) fn check_entries(view: u32, entries: &[LogEntry]) -> Result<(), ReadFault>
+pub(crate) fn check_report(view: u32, entries: &[LogEntry]) -> Result<(), ReadFault>
     ensures { result ≡ refused_at (field (nat_le (length entries.now) last_number) 6 (late_entry view (7 + 6 * length entries.now) entries.now)) }
 {
     if entries.len() > usize::from(LAST_NUMBER) {

@@ -1,4 +1,4 @@
-// Reading: every string of bytes is a message or has one first refusal.
+// Reading: every string of bytes is a message or has one first refusal. Bounds on rows, places and lengths keep sums in range.
 ghost use Rattle.std.specs.Prelude.{◌≡◌, ◌+◌, ◌*◌, ◌/◌, ◌<◌, ◌≤◌, length};
 ghost use Rattle.wire.specs.Reading.{checked, parts_read, row_read, request_read, entry_read, entries_read};
 

@@ -1,10 +1,12 @@
-use Rattle.std.proofs.Common.{sym, ◌∙◌}
-use Rattle.std.proofs.lemmas.Iterator.Adapters.{option_map_id}
-use Rattle.std.proofs.lemmas.Iterator.Consumers.{nth_from_yields_List, YieldsList-from_first}
-use Rattle.wire.specs.Messages.{entries_of, entries_left}
+use Rattle.std.proofs.Common.{Some, sym, ap, ◌∙◌, arith}
+use Rattle.wire.specs.Messages.{entry_in, rows_of}
+use Rattle.wire.proofs.Found.{entry_at, no_entry_past}
 use Rattle.wire.proofs.message.Report.entry.Goals as goal
+
+pub returns-then-row-len : goal.returns-then-row-len
+returns-then-row-len c = sym (no_entry_past (rows_of c.args.self.now) c.args.row c.args.self.now.bodies.now (omega arith))
 
 pub returns : goal.returns
 returns c =
-    sym (option_map_id c.nth.result)
-    ∙ nth_from_yields_List c.nth.result c.nth.new.self c.args.row c.nth.ensures.ran (YieldsList-from_first (λ e. e) entries_left (entries_of c.args.self.now) c.entries.ensures)
+    ap Some (c.entry_of.ensures ∙ ap entry_in c.split_at.ensures.back)
+    ∙ sym (entry_at (rows_of c.args.self.now) c.args.row c.args.self.now.bodies.now (omega arith))
