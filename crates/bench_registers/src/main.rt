@@ -28,13 +28,14 @@ fn fill<R: Register>(register: &mut R, seals: u32) {
 }
 
 // How many of so many look-ups, of that many messages spread over the sealed ones, found theirs.
+// A struct of the register and the counts would be taken apart at each use: `measure` gives two values of `among`.
 fn look_up<R: Register>(register: &mut R, seals: u32, among: u32, times: u32) -> u32 {
     let Some(apart) = seals.checked_div(among) else {
         return 0;
     };
     let mut found: u32 = 0;
     let mut n: u32 = 0;
-    // each turn draws the next number, so a chain would change a capture
+    // a plain `for`: `successors`, `take` and a filter that changes the register are no plainer
     for _ in 0..times {
         n = n.wrapping_mul(1_664_525).wrapping_add(1_013_904_223);
         let which = ((n >> 8) % among).wrapping_mul(apart);

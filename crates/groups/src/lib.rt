@@ -35,19 +35,14 @@ mod tests {
             Group::of_view(three, 999_999)?.members(),
             [0u8, 1].as_slice()
         );
-        match Group::of_view(three, 1_000_000) {
-            Ok(_) => Err(Fail::new("no such view")),
-            Err(fault) => {
-                assert_eq!(rt;
-                    Refusal::from(fault),
-                    Refusal {
-                        number: 3,
-                        layer: Layer::Reader,
-                        place: 0,
-                    }
-                );
-                Ok(())
-            },
-        }
+        assert_eq!(rt;
+            Group::of_view(three, 1_000_000).err().map(Refusal::from),
+            Some(Refusal {
+                number: 3,
+                layer: Layer::Reader,
+                place: 0,
+            })
+        );
+        Ok(())
     }
 }

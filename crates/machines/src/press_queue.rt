@@ -44,7 +44,7 @@ impl PressQueue {
         self.jobs.pop_at(0).map(u64::from).ok_or(Reason::QueueEmpty)
     }
 
-    // Each machine has these two steps of its own: a shared one would shut out other makers.
+    // Each machine has its own `perform`, and `apply` is one line: a trait for the two would be longer.
     fn perform(&mut self, work: u64) -> Result<u64, Reason>
         ensures state { self.new.jobs.items ≡ (press_queue.step self.old.jobs.items work).0 }
         ensures outcome { outcome_of result ≡ (press_queue.step self.old.jobs.items work).1 }

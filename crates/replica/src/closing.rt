@@ -28,7 +28,8 @@ fn count_held(state: &State, n: u8) -> usize
     (0..n).filter(|&replica| is_held(state, replica)).count()
 }
 
-// A plain loop: a fold over a filter is no plainer, and its proof would have to follow shifts of sixteen and more.
+// A `for`: a fold over a filter, with `<<` and with `wrapping_shl`, and a `for` over a filter were tried; the equation with
+// the mask, or the bound of the shift, stays open.
 fn mask_held(state: &State, n: u8) -> u16
     requires { n ≤ most_replicas }
     ensures { result ≡ mask_of n (holds state.now) }

@@ -23,7 +23,7 @@ fn cut<P: Fn(u8) -> bool>(text: &[u8], passes: P) -> (&[u8], &[u8])
 }
 
 // The lines of a text, in order. The end of a line belongs to no line.
-// Lines and words differ in what `next` cuts off; the text that is left is all that they share.
+// `Words` has the same shape and another `next`: one type for both would need a parameter for the cut in both public names.
 #[derive(Drop)]
 pub struct Lines<'a> {
     text: &'a [u8],
@@ -42,6 +42,13 @@ impl<'a> Lines<'a> {
     {
         Lines { text }
     }
+
+    // the text that is not yet read
+    pub fn as_slice(&self) -> &'a [u8]
+        ensures { result.now ≡ self.now }
+    {
+        self.text
+    }
 }
 
 impl<'a> Iterator for Lines<'a> {
@@ -56,7 +63,7 @@ impl<'a> Iterator for Lines<'a> {
             return None;
         }
         let (line, rest) = cut(self.text, |b| b != b'\n');
-        self.text = rest.get(1..).unwrap_or(&[]);
+        *self = Lines::new(rest.get(1..).unwrap_or(&[]));
         Some(line)
     }
 }
@@ -80,6 +87,13 @@ impl<'a> Words<'a> {
     {
         Words { line }
     }
+
+    // the part of the line that is not yet read
+    pub fn as_slice(&self) -> &'a [u8]
+        ensures { result.now ≡ self.now }
+    {
+        self.line
+    }
 }
 
 impl<'a> Iterator for Words<'a> {
@@ -92,7 +106,7 @@ impl<'a> Iterator for Words<'a> {
     fn next(&mut self) -> Option<&'a [u8]> {
         let (_, words) = cut(self.line, is_blank);
         let (word, rest) = cut(words, |b| !is_blank(b));
-        self.line = rest;
+        *self = Words::new(rest);
         (!word.is_empty()).then_some(word)
     }
 }

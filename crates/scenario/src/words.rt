@@ -94,7 +94,7 @@ fn printed_digit(value: u32) -> char
     char::from_digit(value, HEXADECIMAL).unwrap()
 }
 
-// `write!` promises nothing of a text with room, so the digits are pushed.
+// `write!` was tried: it promises nothing of a text with room, so the digits are pushed.
 fn print_byte(out: &mut String, b: u8) -> Result<(), AllocError>
     ensures prints { OnOk result (string_bytes out.new ≡ string_bytes out.old ++ digits_of b) }
     ensures keeps { take (length (string_bytes out.old)) (string_bytes out.new) ≡ string_bytes out.old }

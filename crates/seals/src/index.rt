@@ -86,6 +86,7 @@ impl<'a> Register for IndexedJournal<'a> {
 
     fn is_sealed(&mut self, replica: u8, bytes: &[u8]) -> bool {
         let slot = self.slot_of(Entry { replica, bytes });
+        // `is_some_and` was tried: what the call inside its closure answers is lost to the proof
         matches!(slot, Some(slot) if self.entry_in(slot).is_some())
     }
 

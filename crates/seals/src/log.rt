@@ -74,6 +74,7 @@ impl<'a> EntryLog<'a> {
         &self.memory[..self.used]
     }
 
+    // as the writer of messages does, on whose crate this one does not stand
     fn write(&mut self, at: usize, bytes: &[u8])
         requires { at + length bytes.now ≤ length self.old.memory.now }
         ensures front { take (at + length bytes.now) self.new.memory.now ≡ take at self.old.memory.now ++ bytes.now }

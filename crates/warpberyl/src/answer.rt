@@ -59,7 +59,7 @@ pub(crate) fn answer(
     }
 }
 
-// Answers a command about the register.
+// Answers a command about the register. A plain match, as above.
 pub(crate) fn answer_register<R: Register>(
     out: &mut String,
     register: &mut R,

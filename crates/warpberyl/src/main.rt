@@ -101,7 +101,7 @@ impl From<io::Error> for Failure<'_> {
 }
 
 // A play so far: the line's number, whether each line so far was understood, the answers not yet written.
-// The number counts on over all the clusters of a text, so it stands here and in no loop.
+// The number counts on over all the clusters of a text, so it stands here and in no loop; `(1u64..).zip(lines)` was tried, and did not prove.
 #[derive(Drop)]
 struct Stage {
     number: u64,
@@ -169,7 +169,7 @@ fn play_on<R: Register + Drop>(
     ensures within { length lines.new ≤ length lines.old }
     ensures fewer { IfOk result (λ plan. OnSome plan (length lines.new < length lines.old)) }
 {
-    // a `for` over the lines would not show that fewer are left where it returns
+    // a `for` over the lines, by three ways of borrowing them, was tried: it does not show that fewer are left where it returns
     while let Some(line) = lines.next() {
         let plan = stage.play_line(rt.alloc(), register.as_mut(), line)?;
         if plan.is_some() {

@@ -6,7 +6,7 @@ use std::fmt;
 pub(crate) enum Job<'a> {
     Help,
     Demo,
-    // a file, or the standard input
+    // a file, or the standard input; whether to go on after errors is an option of its own
     Play {
         keep_going: bool,
         file: Option<&'a str>,

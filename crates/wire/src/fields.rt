@@ -39,7 +39,7 @@ impl Message<'_> {
         }
     }
 
-    // The replica that the message is from.
+    // The replica that the message is from. Each case holds all of its message, so replica and view are read out of each.
     pub fn replica(&self) -> u8
         ensures { result ≡ (says self.now).replica }
     {
@@ -137,7 +137,7 @@ impl<'a> Report<'a> {
         }
     }
 
-    // The entry of a row, counted from 0.
+    // The entry of a row, counted from 0; straight to it, where an iterator would go over the rows before.
     pub fn entry(&self, row: usize) -> Option<LogEntry>
         ensures { result ≡ slice_get (entries_of self.now) row }
     {

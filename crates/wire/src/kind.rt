@@ -47,6 +47,7 @@ impl TryFrom<u8> for Kind {
     }
 }
 
+// Written out, as the way back is, so that the two can be read side by side.
 impl From<Kind> for u8 {
     ghost from_gives = { λ kind number. number ≡ kind_number kind };
 

@@ -27,7 +27,7 @@ pub(crate) struct Parts<'a> {
     ghost bodies_len: { length bodies.now ≡ rows * body_length kind },
 }
 
-// What a result says and holds depends on the function, so both clauses stand at each.
+// `holds` ties a result to the parts that it was made of, which no type keeps, and `says` differs: so both stand at each.
 impl<'a> Parts<'a> {
     fn read_vote(self) -> Result<Vote<'a>, ReadFault>
         requires { (4 ≤ length self.contents.now) × (14 ≤ length self.bodies.now) }
@@ -91,7 +91,7 @@ impl<'a> Parts<'a> {
         }))
     }
 
-    // What the bodies state, by kind.
+    // What the bodies state, by kind. A plain match: each kind makes another case of `Message`.
     fn read_bodies(self, config: ClusterConfig) -> Result<Message<'a>, ReadFault>
         ensures says { said result ≡ stated self.entry.replica (bodies_read config self.entry.kind self.entry.view self.entry.rows self.entry.contents.now self.entry.bodies.now) }
         ensures holds { Holds self.entry.contents.now self.entry.bodies.now result }

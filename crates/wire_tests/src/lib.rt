@@ -29,26 +29,15 @@ mod tests {
         }
     }
 
-    fn refused(
-        rt: &impl Abort,
-        message: Result<Message<'_>, ReadFault>,
-        number: u8,
-        place: usize,
-    ) -> Result<(), Fail> {
-        match message {
-            Ok(_) => Err(Fail::new("it reads")),
-            Err(fault) => {
-                assert_eq!(rt;
-                    Refusal::from(fault),
-                    Refusal {
-                        number,
-                        layer: Layer::Reader,
-                        place,
-                    }
-                );
-                Ok(())
-            },
-        }
+    fn refused(rt: &impl Abort, message: Result<Message<'_>, ReadFault>, number: u8, place: usize) {
+        assert_eq!(rt;
+            message.err().map(Refusal::from),
+            Some(Refusal {
+                number,
+                layer: Layer::Reader,
+                place,
+            })
+        );
     }
 
     // the PREPARE with another byte
@@ -87,15 +76,15 @@ mod tests {
     #[test]
     fn damaged_bytes_are_refused(rt: HostRuntime) -> Result<(), Fail> {
         let three = ClusterConfig::new(3)?;
-        refused(&rt, read(three, &PREPARE[0..26]), 1, 26)?;
-        refused(&rt, read(three, &[]), 1, 0)?;
-        refused(&rt, read(three, &with(0, 0)), 2, 0)?;
-        refused(&rt, read(three, &with(0, 7)), 2, 0)?;
-        refused(&rt, read(three, &with(1, 3)), 3, 1)?;
-        refused(&rt, read(three, &with(6, 2)), 3, 6)?;
-        refused(&rt, read(three, &with(10, 97)), 3, 7)?;
-        refused(&rt, read(three, &with(12, 15)), 3, 11)?;
-        refused(&rt, read(three, &with(14, 0)), 3, 13)?;
+        refused(&rt, read(three, &PREPARE[0..26]), 1, 26);
+        refused(&rt, read(three, &[]), 1, 0);
+        refused(&rt, read(three, &with(0, 0)), 2, 0);
+        refused(&rt, read(three, &with(0, 7)), 2, 0);
+        refused(&rt, read(three, &with(1, 3)), 3, 1);
+        refused(&rt, read(three, &with(6, 2)), 3, 6);
+        refused(&rt, read(three, &with(10, 97)), 3, 7);
+        refused(&rt, read(three, &with(12, 15)), 3, 11);
+        refused(&rt, read(three, &with(14, 0)), 3, 13);
         assert!(rt; read(three, &with(10, 96)).is_ok());
         assert!(rt; read(ClusterConfig::new(5)?, &with(1, 3)).is_ok());
         Ok(())
