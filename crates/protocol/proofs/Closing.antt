@@ -15,7 +15,7 @@ use Rattle.protocol.specs.Steps.{Effect, rest, accepted, close_step, hear_closin
 use Rattle.protocol.proofs.Tests.{as_accepted}
 use Rattle.protocol.proofs.Masks.{mask_small, mask_count}
 use Rattle.protocol.proofs.Parts.{Shape, Holds, Inv}
-use Rattle.protocol.proofs.Grow.{Adds, Keeps, reports_grow, inv_adds, chosen_grows, replied_grows, certified_grows}
+use Rattle.protocol.proofs.Grow.{is_report, is_reply, Adds, Keeps, silent, reports_grow, inv_adds, chosen_grows, replied_grows, certified_grows}
 use Rattle.std.proofs.lemmas.Bool.Decides.{nat_tests}
 use Rattle.std.proofs.lemmas.Grind.{elements}
 
@@ -29,7 +29,7 @@ closing_keeps {s = s} inv gathers enough adds here =
       executes = search arith;
       replies = search (arith, adds.only, inv.replies, replied_grows s.config adds.grows);
       logs = search (arith, inv.logs, certified_grows s.config adds.grows);
-      reports = reports_grow s.config adds.grows adds.only (λ w es e. cc) (λ v n r outcome e. cc) inv.reports;
+      reports = reports_grow s.config adds.grows (silent adds is_reply (λ t. t)) (silent adds is_report (λ t. t)) inv.reports;
       closings = grind (arith, inv.closings, adds.only, adds.new);
       holds = grind (arith, elements, inv.holds, adds, certified_grows s.config adds.grows);
       opens = search arith;

@@ -44,7 +44,7 @@ module _ (config : ClusterConfig) (machine : RequestMachine) (byzantine : ℕ �
         keeps = λ h node e honest.
             let silent = subst (λ (g : ℕ). (st : Statement) → Made config d.sealed g st → Made config c.sealed g st)
             (sym (kept.placed h node (there h ∙ e)).0) (quiet h honest) in
-            inv_grows grows {s = node.state} silent (kept.keeps h node (there h ∙ e) honest);
+            inv_grows grows {s = node.state} (λ st t. silent st) (kept.keeps h node (there h ∙ e) honest);
         past = λ h honest.
             past_more config machine byzantine ds c deed d grows h (kept.past h honest) (λ act s answer is. absurd (no_call h act s answer is));
       }
@@ -156,7 +156,7 @@ module _ (config : ClusterConfig) (machine : RequestMachine) (byzantine : ℕ �
             (λ (apart : h ≡ at → ⊥).
             let old = elsewhere h apart ∙ e in
             let silent = quiet node'.state.number (λ equal. apart (sym (kept.placed h node' old).0 ∙ equal ∙ named.0)) in
-            inv_grows grows {s = node'.state} silent (kept.keeps h node' old honest))
+            inv_grows grows {s = node'.state} (λ st t. silent st) (kept.keeps h node' old honest))
             (cases_eq h at);
         past = λ h honest.
             past_more config machine byzantine ds c deed d grows h (kept.past h honest)

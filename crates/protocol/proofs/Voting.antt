@@ -19,7 +19,7 @@ use Rattle.protocol.specs.Rules.{Chosen}
 use Rattle.protocol.specs.States.{working, leads, prepared_at, selected_at, commits_at, with_prepared, with_commits}
 use Rattle.protocol.specs.Steps.{Effect, rest, accepted, allows, entitles, order_step, repeat_step, hear_prepare, hear_commit}
 use Rattle.protocol.specs.Votes.{vote}
-use Rattle.protocol.proofs.Grow.{Adds, Keeps, chosen_grows, reports_grow, inv_adds, replied_grows, certified_grows, closed_before_grows, executed_grows}
+use Rattle.protocol.proofs.Grow.{is_report, is_reply, Adds, Keeps, silent, chosen_grows, reports_grow, inv_adds, replied_grows, certified_grows, closed_before_grows, executed_grows}
 use Rattle.protocol.proofs.Masks.{names_more}
 use Rattle.protocol.proofs.Parts.{Shape, Votes, Prepares, Inv}
 use Rattle.protocol.proofs.Tests.{as_accepted, same_equal}
@@ -79,7 +79,7 @@ module _ {machine : RequestMachine} {facts facts' : Facts machine} (s : State) (
         executes = search (arith, inv.executes, executed_grows s.config adds.grows);
         replies = search (arith, adds.only, inv.replies, replied_grows s.config adds.grows);
         logs = search (arith, inv.logs, certified_grows s.config adds.grows);
-        reports = reports_grow s.config adds.grows adds.only (λ w es e. grind arith) (λ v n r outcome e. grind arith) inv.reports;
+        reports = reports_grow s.config adds.grows (silent adds is_reply (λ t. grind arith)) (silent adds is_report (λ t. grind arith)) inv.reports;
         closings = search (arith, adds.only, inv.closings, closed_before_grows s.config adds.grows);
         holds = search (arith, adds.grows.known, inv.holds, certified_grows s.config adds.grows);
         opens = search (arith, inv.opens.chosen, chosen_grows s.config adds.grows);
