@@ -48,9 +48,10 @@ pub(crate) fn answer(
             let hash = fnv1a(bytes.as_slice());
             writeln!(out, "{hash:08x}")
         }
-        PlainCommand::Machine { fresh } => {
-            *machine = fresh;
-            writeln!(out, "{DONE}")
+        PlainCommand::Machine { kind } => {
+            *machine = kind.into();
+            out.push_str(DONE)?;
+            out.push('\n')
         }
         PlainCommand::Do { work } => {
             let outcome = machine.apply(work);

@@ -1,4 +1,5 @@
 // A machine of either maker.
+use crate::command::MachineKind;
 use machines::ledger::Ledger;
 use machines::machine::Machine;
 use machines::press_queue::PressQueue;
@@ -10,15 +11,17 @@ pub(crate) enum AnyMachine {
     Press(PressQueue),
 }
 
+// a fresh machine
+impl From<MachineKind> for AnyMachine {
+    fn from(kind: MachineKind) -> AnyMachine {
+        match kind {
+            MachineKind::Ledger => AnyMachine::Ledger(Ledger::new()),
+            MachineKind::Press => AnyMachine::Press(PressQueue::new()),
+        }
+    }
+}
+
 impl AnyMachine {
-    pub(crate) fn ledger() -> AnyMachine {
-        AnyMachine::Ledger(Ledger::new())
-    }
-
-    pub(crate) fn press() -> AnyMachine {
-        AnyMachine::Press(PressQueue::new())
-    }
-
     pub(crate) fn apply(&mut self, work: u64) -> u64 {
         match self {
             AnyMachine::Ledger(ledger) => ledger.apply(work),

@@ -1,5 +1,4 @@
 // The commands, and the command that a line says.
-use crate::any_machine::AnyMachine;
 use machines::ledger_work::LedgerWork;
 use machines::queue_work::QueueWork;
 use scenario::lines::Words;
@@ -31,8 +30,15 @@ pub(crate) enum PlainCommand {
     Group { size: u8, view: u32 },
     Request { client: u16, stamp: u32, work: u64 },
     Hash { bytes: Vec<u8> },
-    Machine { fresh: AnyMachine },
+    Machine { kind: MachineKind },
     Do { work: u64 },
+}
+
+// The machines that can be asked for. A command names one, since a machine in it would make every command as large.
+#[derive(Clone, Copy)]
+pub(crate) enum MachineKind {
+    Ledger,
+    Press,
 }
 
 // The registers that can be asked for, with their bytes and slots.
@@ -143,10 +149,10 @@ impl<'a> Arguments<'a> {
         Ok(self.number(MOST_SPACE)? as usize)
     }
 
-    fn machine(&mut self) -> Result<AnyMachine, Reason> {
+    fn machine(&mut self) -> Result<MachineKind, Reason> {
         match self.word()? {
-            b"ledger" => Ok(AnyMachine::ledger()),
-            b"press" => Ok(AnyMachine::press()),
+            b"ledger" => Ok(MachineKind::Ledger),
+            b"press" => Ok(MachineKind::Press),
             _ => Err(Reason::Machine),
         }
     }
@@ -215,7 +221,7 @@ fn plain(heap: Global, name: &[u8], words: &mut Arguments<'_>) -> Result<PlainCo
             bytes: words.bytes(heap)?,
         }),
         b"machine" => Ok(PlainCommand::Machine {
-            fresh: words.machine()?,
+            kind: words.machine()?,
         }),
         b"do" => Ok(PlainCommand::Do {
             work: words.work()?,

@@ -11,7 +11,7 @@ mod options;
 
 use answer::{answer, answer_cluster, answer_error, answer_register};
 use any_machine::AnyMachine;
-use command::{Command, Reason, RegisterPlan, parse};
+use command::{Command, MachineKind, Reason, RegisterPlan, parse};
 use demo::demo;
 use options::{Job, Misuse};
 use scenario::lines::Lines;
@@ -116,7 +116,7 @@ impl Stage {
         Stage {
             number: 0,
             understood: true,
-            machine: AnyMachine::ledger(),
+            machine: AnyMachine::from(MachineKind::Ledger),
             out: String::new(heap),
         }
     }
