@@ -2,6 +2,8 @@
 use Rattle.std.proofs.Common.{◌≡◌, ℕ, ◌-◌, ◌%◌, ◌<◌, Bool, true, false, List, [], ◌∷◌, ◌++◌, length, Some, None, Option, sym, ap, ◌∙◌, le_of_lt, arith}
 use native.Mathlib.Nat.{min-eq_left, sub-zero}
 use Rattle.std.specs.List.{range_with_len, find, AllByRecursion as All}
+use Rattle.std.specs.Option.{option_or}
+use Rattle.std.proofs.lemmas.List.Folds.{find-append}
 use Rattle.seals.specs.Fnv.{fnv1a}
 use Rattle.seals.specs.Registers.{Pair}
 use Rattle.seals.specs.Slots.{ends_at, probed, round}
@@ -31,12 +33,12 @@ round_parts : (start count : ℕ) → start < count → round start count ≡ ra
 round_parts start count lt = ap (λ n. range_with_len start (count - start) ++ range_with_len 0 n) (min-eq_left (le_of_lt lt) ∙ sym (sub-zero start))
 
 module _ (cs : List (Option Pair)) (replica : ℕ) (bytes : List ℕ) where
-  searched : List ℕ → Option ℕ
+  abbrev searched : List ℕ → Option ℕ
   searched ks = find (ends_at cs replica bytes) ks
 
   -- a search through all slots, as the code makes it
   pub probed_parts : (start count : ℕ) → length cs ≡ count → start ≡ fnv1a (replica ∷ bytes) % count → start < count
-      → probed cs replica bytes ≡ find (ends_at cs replica bytes) (range_with_len start (count - start) ++ range_with_len 0 (start - 0))
-  unfolding searched
+      → probed cs replica bytes ≡ option_or (searched (range_with_len start (count - start))) (searched (range_with_len 0 (start - 0)))
   probed_parts start count l s lt =
       ap (λ n. searched (round (fnv1a (replica ∷ bytes) % n) n)) l ∙ ap (λ k. searched (round k count)) (sym s) ∙ ap searched (round_parts start count lt)
+      ∙ find-append (ends_at cs replica bytes) (range_with_len start (count - start)) (range_with_len 0 (start - 0))

@@ -1,14 +1,14 @@
 -- Sealing as it moves the set of sealed pairs.
-use Rattle.std.proofs.Common.{◌≡◌, ℕ, Bool, true, false, ◌||◌, eqb, List, [], ◌∷◌, ◌++◌, length, Ok, Err, Result, sym, refl}
+use Rattle.std.proofs.Common.{◌≡◌, ℕ, Bool, true, false, not, ◌||◌, eqb, List, [], ◌∷◌, ◌++◌, length, Ok, Err, Result, sym, refl}
 use mathlib.Core.Path.{fun_ext}
 use Rattle.std.specs.Str.{bytes_eq}
 use Rattle.std.proofs.Math.Bool.{or-false}
 use Rattle.std.proofs.lemmas.List.Folds.{list_any-append}
-use Rattle.std.proofs.lemmas.Bool.{eqb-true, and_parts, both_ways, cond-true, or_right}
+use Rattle.std.proofs.lemmas.Bool.{eqb-true, and_parts, and_right, both_ways, cond-true, or_right}
 use Rattle.std.proofs.lemmas.Slice.Eq.{bytes_eq-Decides}
 use Rattle.seals.specs.declared.fault.RegisterFault.{RegisterFault}
 use Rattle.seals.specs.declared.fault.RegisterFault.TheVariants.{Full}
-use Rattle.seals.specs.Registers.{Pair, RegisterState, is_pair, added, after_sealing, among, sealing, with_pair}
+use Rattle.seals.specs.Registers.{Pair, RegisterState, is_pair, added, adds, after_sealing, among, sealing, with_pair}
 
 -- a pair is the one with its replica and bytes
 pub pair_eq : (p : Pair) (r : ℕ) (bs : List ℕ) → is_pair p r bs ≡ true → (p.0 ≡ r) × (p.1 ≡ bs)
@@ -64,3 +64,14 @@ module _ (state : RegisterState) (replica : ℕ) (bytes : List ℕ) where
       by_tests true f p q = rw p
       by_tests false true p q = let r : sealing state replica bytes ≡ Ok tt = rw (p, q) in let z : ⊥ = cc in absurd z
       by_tests false false p q = rw (p, q)
+
+-- which way of sealing adds a pair
+module _ (sealed : ℕ → List ℕ → Bool) (fits : ℕ → Bool) (replica : ℕ) (bytes : List ℕ) where
+  pub known_adds : sealed replica bytes ≡ true → adds sealed fits replica bytes ≡ false
+  known_adds k = rw k
+
+  pub new_adds : sealed replica bytes ≡ false → fits (length bytes) ≡ true → adds sealed fits replica bytes ≡ true
+  new_adds n f = rw (n, f)
+
+  pub full_adds : fits (length bytes) ≡ false → adds sealed fits replica bytes ≡ false
+  full_adds f = and_right (not (sealed replica bytes)) (fits (length bytes)) f

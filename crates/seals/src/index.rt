@@ -8,6 +8,7 @@ use crate::fault::RegisterFault;
 use crate::fnv::fnv1a_pair;
 use crate::log::EntryLog;
 use crate::register::Register;
+use std::ops::Range;
 
 // the value of an empty slot; offsets stay below it. Callers lend slots as numbers of 32 bits, so a number stands for none
 const EMPTY: u32 = 4294967295;
@@ -25,7 +26,8 @@ pub struct IndexedJournal<'a> {
 }
 
 impl<'a> IndexedJournal<'a> {
-    ghost use Rattle.std.specs.Prelude.{◌<◌, ℕ, None, IfSome, length, slice_index_or};
+    ghost use Rattle.std.specs.Prelude.{◌<◌, ◌-◌, ℕ, None, IfSome, find, is_some, length, slice_index_or};
+    ghost use Rattle.std.specs.List.{range_with_len};
     ghost use Rattle.std.specs.Option.{option_map};
     ghost use Rattle.seals.specs.Registers.{nothing};
     ghost use Rattle.seals.specs.Layout.{pair_of};
@@ -52,11 +54,22 @@ impl<'a> IndexedJournal<'a> {
         ensures inside { IfSome result (λ slot. slot < length self.now.slots.now) }
     {
         let count = self.slots.len();
-        let hash = fnv1a_pair(entry.replica, entry.bytes) as usize;
-        let start = hash.checked_rem(count)?;
-        (start..count)
-            .chain(0..start)
-            .find(|&slot| self.ends_at(slot, entry))
+        if count == 0 {
+            return None;
+        }
+        let start = fnv1a_pair(entry.replica, entry.bytes) as usize % count;
+        // `or_else` was tried, as `is_some_and` below
+        match self.first_end(start..count, entry.replica, entry.bytes) {
+            None => self.first_end(0..start, entry.replica, entry.bytes),
+            found => found,
+        }
+    }
+
+    // the first of these slots that ends a search; the pair comes as its two parts, since an `Entry` is passed through memory
+    fn first_end(&self, mut slots: Range<usize>, replica: u8, bytes: &[u8]) -> Option<usize>
+        ensures { result ≡ find (ends_at (index_contents self.now) replica bytes.now) (range_with_len slots.start (slots.end - slots.start)) }
+    {
+        slots.find(|&slot| self.ends_at(slot, Entry { replica, bytes }))
     }
 
     // an empty slot and one that holds the entry end a search
@@ -65,6 +78,13 @@ impl<'a> IndexedJournal<'a> {
     {
         let held = self.entry_in(slot);
         held.is_none() || held == Some(entry)
+    }
+
+    // whether a slot holds an entry; each that is not empty does
+    fn is_taken(&self, slot: usize) -> bool
+        ensures { result ≡ is_some (slice_index_or (index_contents self.now) slot None) }
+    {
+        self.slots.get(slot).is_some_and(|offset| *offset != EMPTY)
     }
 
     // the entry that a slot holds
@@ -87,7 +107,7 @@ impl<'a> Register for IndexedJournal<'a> {
     fn is_sealed(&mut self, replica: u8, bytes: &[u8]) -> bool {
         let slot = self.slot_of(Entry { replica, bytes });
         // `is_some_and` was tried: what the call inside its closure answers is lost to the proof
-        matches!(slot, Some(slot) if self.entry_in(slot).is_some())
+        matches!(slot, Some(slot) if self.is_taken(slot))
     }
 
     fn has_room(&mut self, length: usize) -> bool {
@@ -97,7 +117,7 @@ impl<'a> Register for IndexedJournal<'a> {
     fn seal(&mut self, replica: u8, bytes: &[u8]) -> Result<(), RegisterFault> {
         let entry = Entry { replica, bytes };
         let slot = self.slot_of(entry).ok_or(RegisterFault::Full)?;
-        if self.entry_in(slot).is_some() {
+        if self.is_taken(slot) {
             return Ok(());
         }
         if !is_holdable(self.log.offset_for(bytes.len())) {
