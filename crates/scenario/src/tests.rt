@@ -2,7 +2,7 @@
 ghost use Rattle.std.specs.Prelude.{◌≡◌};
 ghost use Rattle.scenario.specs.Numbers.{numeral, up_to};
 
-use crate::words::decimal;
+use crate::words::{decimal, print};
 
 fn decimal_u8(word: &[u8]) -> Option<u8>
     ensures { result ≡ up_to 255 (numeral 10 word.now) }
@@ -31,4 +31,11 @@ fn each_type_has_its_largest_number(rt: HostRuntime) {
     assert_eq!(rt; decimal_u32(b"4294967295"), Some(4294967295));
     assert_eq!(rt; decimal_u32(b"4294967296"), None);
     assert_eq!(rt; decimal_u32(b"99999999999999999999"), None);
+}
+
+#[test]
+fn bytes_are_printed_in_lower_case(rt: HostRuntime) {
+    let mut out = String::new(rt.alloc());
+    assert!(rt; print(&mut out, &[0, 10, 160, 255]).is_ok());
+    assert_eq!(rt; out.as_str(), "000aa0ff");
 }

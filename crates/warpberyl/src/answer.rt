@@ -3,9 +3,9 @@ use crate::any_machine::AnyMachine;
 use crate::command::{PlainCommand, Reason, RegisterCommand, RegisterPlan};
 use groups::group::Group;
 use refusals::Refusal;
+use scenario::words::print;
 use seals::fnv::fnv1a;
 use seals::register::Register;
-use std::alloc::AllocError;
 use std::fmt;
 use std::fmt::Write;
 use wire::config::ClusterConfig;
@@ -16,17 +16,36 @@ use wire::request::Request;
 // What a call that may be refused answers where it is not.
 const DONE: &str = "ok 0";
 
+fn answer_refusal(out: &mut String, refusal: Refusal) -> fmt::Result {
+    Ok(writeln!(out, "{refusal}")?)
+}
+
 // A call's outcome on a line: what it gives, or the refusal.
 fn answer_call<T: fmt::Display + Drop, E: Into<Refusal>>(
     out: &mut String,
     outcome: Result<T, E>,
-) -> Result<(), AllocError> {
+) -> fmt::Result {
     match outcome {
-        Ok(value) => writeln!(out, "{value}"),
-        Err(fault) => {
-            let refusal: Refusal = fault.into();
-            writeln!(out, "{refusal}")
-        }
+        Ok(value) => Ok(writeln!(out, "{value}")?),
+        Err(fault) => answer_refusal(out, fault.into()),
+    }
+}
+
+// A word or two on a line. The text goes in as it is, since formatting would take half of the time of a line.
+fn answer_done(out: &mut String, done: &str) -> fmt::Result {
+    out.push_str(done)?;
+    Ok(out.push('\n')?)
+}
+
+// Whether a call was refused, on a line: that it was done, or the refusal.
+fn answer_outcome<T: Drop, E: Into<Refusal>>(
+    out: &mut String,
+    outcome: Result<T, E>,
+    done: &str,
+) -> fmt::Result {
+    match outcome {
+        Ok(_) => answer_done(out, done),
+        Err(fault) => answer_refusal(out, fault.into()),
     }
 }
 
@@ -35,7 +54,7 @@ pub(crate) fn answer(
     out: &mut String,
     machine: &mut AnyMachine,
     command: PlainCommand,
-) -> Result<(), AllocError> {
+) -> fmt::Result {
     match command {
         PlainCommand::Read { size, bytes } => answer_read(out, size, bytes.as_slice()),
         PlainCommand::Group { size, view } => answer_group(out, size, view),
@@ -45,17 +64,16 @@ pub(crate) fn answer(
             work,
         } => answer_request(out, client, stamp, work),
         PlainCommand::Hash { bytes } => {
-            let hash = fnv1a(bytes.as_slice());
-            writeln!(out, "{hash:08x}")
+            print(out, &fnv1a(bytes.as_slice()).to_be_bytes())?;
+            Ok(out.push('\n')?)
         }
         PlainCommand::Machine { kind } => {
             *machine = kind.into();
-            out.push_str(DONE)?;
-            out.push('\n')
+            answer_done(out, DONE)
         }
         PlainCommand::Do { work } => {
             let outcome = machine.apply(work);
-            writeln!(out, "{outcome}")
+            Ok(writeln!(out, "{outcome}")?)
         }
     }
 }
@@ -65,7 +83,7 @@ pub(crate) fn answer_register<R: Register>(
     out: &mut String,
     register: &mut R,
     command: RegisterCommand,
-) -> Result<(), AllocError> {
+) -> fmt::Result {
     match command {
         RegisterCommand::Seal { replica, bytes } => answer_seal(
             out,
@@ -82,9 +100,8 @@ pub(crate) fn answer_register<R: Register>(
     }
 }
 
-fn answer_yes(out: &mut String, yes: bool) -> Result<(), AllocError> {
-    let word = if yes { "yes" } else { "no" };
-    writeln!(out, "{word}")
+fn answer_yes(out: &mut String, yes: bool) -> fmt::Result {
+    answer_done(out, if yes { "yes" } else { "no" })
 }
 
 // Answers whether a cluster may have the size, and hands on the plan for its register if it may.
@@ -92,29 +109,32 @@ pub(crate) fn answer_cluster(
     out: &mut String,
     size: u8,
     plan: RegisterPlan,
-) -> Result<Option<RegisterPlan>, AllocError> {
+) -> Result<Option<RegisterPlan>, fmt::Error> {
     let cluster = ClusterConfig::new(size);
-    answer_call(out, cluster.map(|_| DONE))?;
+    answer_outcome(out, cluster, DONE)?;
     Ok(cluster.ok().map(|_| plan))
 }
 
-pub(crate) fn answer_error(out: &mut String, line: u64, reason: Reason) -> Result<(), AllocError> {
-    writeln!(out, "error {line}: {reason}")
+pub(crate) fn answer_error(out: &mut String, line: u64, reason: Reason) -> fmt::Result {
+    Ok(writeln!(out, "error {line}: {reason}")?)
 }
 
-pub(crate) fn answer_read(out: &mut String, size: u8, bytes: &[u8]) -> Result<(), AllocError> {
+pub(crate) fn answer_read(out: &mut String, size: u8, bytes: &[u8]) -> fmt::Result {
     let message = ClusterConfig::new(size).and_then(|config| read(config, bytes));
-    answer_call(out, message.map(InWords))
+    match message {
+        Ok(message) => tell(out, message),
+        Err(fault) => answer_refusal(out, fault.into()),
+    }
 }
 
-fn answer_group(out: &mut String, size: u8, view: u32) -> Result<(), AllocError> {
+fn answer_group(out: &mut String, size: u8, view: u32) -> fmt::Result {
     let group = ClusterConfig::new(size).and_then(|config| Group::of_view(config, view));
     answer_call(out, group.map(Members))
 }
 
-fn answer_request(out: &mut String, client: u16, stamp: u32, work: u64) -> Result<(), AllocError> {
+fn answer_request(out: &mut String, client: u16, stamp: u32, work: u64) -> fmt::Result {
     let request = Request::new(client, stamp, work);
-    answer_call(out, request.map(|_| DONE))
+    answer_outcome(out, request, DONE)
 }
 
 // Seals bytes under a replica's number, and says so in a word or two.
@@ -124,9 +144,9 @@ pub(crate) fn answer_seal<R: Register>(
     replica: u8,
     bytes: &[u8],
     done: &str,
-) -> Result<(), AllocError> {
+) -> fmt::Result {
     let sealed = register.seal(replica, bytes);
-    answer_call(out, sealed.map(|_| done))
+    answer_outcome(out, sealed, done)
 }
 
 // The answer about a group: its members.
@@ -143,61 +163,47 @@ impl fmt::Display for Members {
     }
 }
 
-// A message in words.
-#[derive(Clone, Copy)]
-struct InWords<'a>(Message<'a>);
-
-impl fmt::Display for InWords<'_> {
-    fn fmt<W: fmt::Write>(&self, f: &mut fmt::Formatter<W>) -> fmt::Result {
-        let message = self.0;
-        let kind = message.kind();
-        let house = message.replica();
-        let view = message.view();
-        write!(f, "{kind} house {house} view {view}")?;
-        match message {
-            Message::Prepare(vote) | Message::Commit(vote) => tell_request(
-                f,
-                vote.number(),
-                vote.request(),
-            ),
-            Message::Doubt(_) => Ok(()),
-            Message::Report(report) => tell_report(f, &report),
-            Message::Closing(closing) => {
-                let mask = closing.mask();
-                write!(f, " mask {mask}")
-            }
-            Message::Reply(reply) => {
-                tell_request(f, reply.number(), reply.request())?;
-                let outcome = reply.outcome();
-                write!(f, " outcome {outcome}")
-            }
+// A message in words. It goes straight into the text, since `print` promises of a text what it cannot of any writer.
+fn tell(out: &mut String, message: Message<'_>) -> fmt::Result {
+    let kind = message.kind();
+    let house = message.replica();
+    let view = message.view();
+    write!(out, "{kind} house {house} view {view}")?;
+    match message {
+        Message::Prepare(vote) | Message::Commit(vote) => {
+            tell_request(out, vote.number(), vote.request())?;
+        }
+        Message::Doubt(_) => {}
+        Message::Report(report) => tell_report(out, &report)?,
+        Message::Closing(closing) => {
+            let mask = closing.mask();
+            write!(out, " mask {mask}")?;
+        }
+        Message::Reply(reply) => {
+            tell_request(out, reply.number(), reply.request())?;
+            let outcome = reply.outcome();
+            write!(out, " outcome {outcome}")?;
         }
     }
+    Ok(out.push('\n')?)
 }
 
-fn tell_request<W: fmt::Write>(
-    f: &mut fmt::Formatter<W>,
-    number: u32,
-    request: Request,
-) -> fmt::Result {
+fn tell_request(out: &mut String, number: u32, request: Request) -> fmt::Result {
     let client = request.client();
     let stamp = request.stamp();
-    let work = request.work();
-    write!(
-        f,
-        " number {number} client {client} stamp {stamp} work {work:016x}"
-    )
+    write!(out, " number {number} client {client} stamp {stamp} work ")?;
+    print(out, &request.work().to_be_bytes())
 }
 
-fn tell_report<W: fmt::Write>(f: &mut fmt::Formatter<W>, report: &Report<'_>) -> fmt::Result {
+fn tell_report(out: &mut String, report: &Report<'_>) -> fmt::Result {
     let rows = report.len();
-    write!(f, " rows {rows}")?;
+    write!(out, " rows {rows}")?;
     for (number, entry) in (1..=rows).zip(report.entries()) {
         let view = entry.view;
         let client = entry.request.client();
         let stamp = entry.request.stamp();
-        let work = entry.request.work();
-        write!(f, " {number}:{view}:{client}:{stamp}:{work:016x}")?;
+        write!(out, " {number}:{view}:{client}:{stamp}:")?;
+        print(out, &entry.request.work().to_be_bytes())?;
     }
     Ok(())
 }

@@ -96,7 +96,7 @@ fn tell_group(out: &mut String, config: ClusterConfig) -> fmt::Result {
 
 fn tell_read(out: &mut String, what: &str, bytes: &[u8]) -> fmt::Result {
     write!(out, "  {what}: ")?;
-    Ok(answer_read(out, SIZE, bytes)?)
+    answer_read(out, SIZE, bytes)
 }
 
 // What the reader says of the message with some damage done to it.

@@ -18,7 +18,7 @@ use scenario::lines::Lines;
 use seals::index::IndexedJournal;
 use seals::journal::Journal;
 use seals::register::Register;
-use std::alloc::{AllocError, Global};
+use std::alloc::Global;
 use std::error::Error;
 use std::io::Read;
 use std::process::ExitCode;
@@ -127,7 +127,7 @@ impl Stage {
         heap: Global,
         register: Option<&mut R>,
         line: &[u8],
-    ) -> Result<Option<RegisterPlan>, AllocError> {
+    ) -> Result<Option<RegisterPlan>, fmt::Error> {
         self.number = self.number.saturating_add(1);
         let reason = match (parse(heap, line), register) {
             (Ok(None), _) => return Ok(None),
@@ -171,7 +171,9 @@ fn play_on<R: Register + Drop>(
 {
     // a `for` over the lines, by three ways of borrowing them, was tried: it does not show that fewer are left where it returns
     while let Some(line) = lines.next() {
-        let plan = stage.play_line(rt.alloc(), register.as_mut(), line)?;
+        let Ok(plan) = stage.play_line(rt.alloc(), register.as_mut(), line) else {
+            return Err(io::Error::from(io::ErrorKind::OutOfMemory));
+        };
         if plan.is_some() {
             return Ok(plan);
         }
