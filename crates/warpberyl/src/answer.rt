@@ -31,7 +31,7 @@ fn answer_call<T: fmt::Display + Drop, E: Into<Refusal>>(
     }
 }
 
-// A word or two on a line. The text goes in as it is, since formatting would take half of the time of a line.
+// A word or two on a line. The text goes in as it is: formatting it would take a tenth of the time of the whole line.
 fn answer_done(out: &mut String, done: &str) -> fmt::Result {
     out.push_str(done)?;
     Ok(out.push('\n')?)
